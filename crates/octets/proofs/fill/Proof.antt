@@ -1,0 +1,28 @@
+use Prim.Native.Nat.{_-_}
+use native.Mathlib.Omega.{arith}
+use lib.ListN.{replicate, length-replicate}
+use Rattle.octets.proofs.Moves.{Up, up-start, moves}
+use Rattle.octets.proofs.fill.Statement.{statement}
+use Rattle.octets.proofs.fill.Tie as tie
+
+abbrev Inv-loop : tie.InvT-loop
+Inv-loop s₀ from to v n j₀ s j = Up from n (replicate n v) s₀ s j
+
+abbrev μ-loop : tie.MeasureT-loop
+μ-loop s₀ from to v n j₀ s j = n - j
+
+pub fill-spec : {M : Type 1} → statement M
+fill-spec =
+    tie.close
+    (tie.spec
+    Inv-loop
+    μ-loop
+    (λ c. search moves)
+    (λ c. up-start _ _ _ _ (length-replicate _ _) (omega arith))
+    (λ c. search moves)
+    (λ c. search moves)
+    (λ c. search moves)
+    (λ c. search moves)
+    (λ c. search moves)
+    (λ c. search moves)
+    (λ c. search moves))

@@ -1,0 +1,9 @@
+use native.Mathlib.Omega.{arith}
+use Rattle.octets.proofs.Digits.{number-split}
+use borrow.Author.Needs.{needs}
+use Rattle.octets.proofs.get64.Statement.{statement}
+use Rattle.octets.proofs.get64.Tie as tie
+
+pub get64-spec : {M : Type 1} → statement M
+get64-spec =
+    tie.close (tie.spec (λ c κs. search needs) (λ c. search needs) (λ c. search needs) (λ c κs. search needs) (λ c. search needs) (λ c. let a = c .before .before .before .args in omega (arith, number-split (a .at) 4 4 (a .s .now) (omega arith))))

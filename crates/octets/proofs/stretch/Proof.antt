@@ -1,0 +1,25 @@
+use Prim.Native.Nat.{_+_, _-_}
+use mathlib.Core.Path.{_≡_, sym}
+use native.Mathlib.Omega.{arith}
+use Rattle.octets.proofs.Lists.{whole-in, whole-out}
+use borrow.Author.Needs.{needs}
+use Rattle.octets.proofs.stretch.Statement.{statement}
+use Rattle.octets.proofs.stretch.Tie as tie
+
+pub stretch-spec : {M : Type 1} → statement M
+stretch-spec =
+    tie.close
+    (tie.spec
+    (λ c. search needs)
+    (λ c. sym (whole-out _ _ _ (omega arith)))
+    (λ c. search needs)
+    (λ c. search needs)
+    (λ c. sym (whole-out _ _ _ (omega arith)))
+    (λ c. search needs)
+    (λ c. search needs)
+    (λ c. search needs)
+    (λ c. search needs)
+    (λ c.
+    let a = c .before .before .before .args in
+    let e : a .at + a .n - a .at ≡ a .n = omega arith in
+    rw e (sym (whole-in (a .at) (a .n) (a .s .now) (omega arith)))))

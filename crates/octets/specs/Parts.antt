@@ -1,0 +1,46 @@
+-- Parts of a list of bytes, and what is put into it. Assumes nothing: these are definitions.
+use Prim.Native.Nat.{ℕ, _+_, _-_, _*_, _/_}
+use mathlib.Core.Bool.{Bool, true, false, cond, _&&_}
+use mathlib.Core.Path.{_≡_}
+use mathlib.Core.List.{List, [], _∷_, _++_}
+use lib.ListN.{length, take, drop, replicate}
+use lib.Dec.{eqb, leb}
+
+-- the n bytes of l from place `at` on
+abbrev pub part : ℕ → ℕ → List ℕ → List ℕ
+part at n l = take n (drop at l)
+
+-- the same if they all lie in l, and else none
+unfoldable pub wholePart : ℕ → ℕ → List ℕ → List ℕ
+wholePart at n l = cond (leb (at + n) (length l)) (part at n l) []
+
+-- l with xs in the place of as many of its bytes from place `at` on
+unfoldable pub putAt : ℕ → List ℕ → List ℕ → List ℕ
+putAt at xs l = take at l ++ xs ++ drop (at + length xs) l
+
+-- l with xs standing at place `at`, what stood there and after it moved up
+unfoldable pub insertAt : ℕ → List ℕ → List ℕ → List ℕ
+insertAt at xs l = take at l ++ xs ++ drop at l
+
+-- document 01's "Up8": "the next multiple of 8, or the number itself"
+abbrev pub up8 : ℕ → ℕ
+up8 n = (n + 7) / 8 * 8
+
+-- xs with zeros after it, n bytes in all
+unfoldable pub filled : ℕ → List ℕ → List ℕ
+filled n xs = xs ++ replicate (n - length xs) 0
+
+-- xs with "zero padding to up8"
+abbrev pub padded : List ℕ → List ℕ
+padded xs = filled (up8 (length xs)) xs
+
+-- xs stands in b at place p
+abbrev pub Stands : ℕ → List ℕ → List ℕ → Type 0
+Stands p xs b = part p (length xs) b ≡ xs
+
+-- whether two lists are the same
+unfoldable pub same : List ℕ → List ℕ → Bool
+same [] [] = true
+same [] (y ∷ ys) = false
+same (x ∷ xs) [] = false
+same (x ∷ xs) (y ∷ ys) = eqb x y && same xs ys

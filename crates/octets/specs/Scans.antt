@@ -1,0 +1,45 @@
+-- The first place whose byte fails a test, over the test. Assumes nothing: these are definitions.
+use Prim.Native.Nat.{ℕ, suc, _+_, _-_}
+use mathlib.Core.Bool.{Bool, true, false, _&&_, _||_}
+use mathlib.Core.Path.{_≡_}
+use mathlib.Core.List.{List, [], _∷_}
+use lib.ListN.{length}
+use lib.Dec.{eqb, leb}
+use Rattle.octets.specs.Parts.{part}
+use Rattle.octets.specs.declared.ByteTest.{ByteTest}
+use Rattle.octets.specs.declared.ByteTest.the-variants.{FlowCharacter, NameByte, Zero}
+
+-- one more than n where the test held, else 0
+abbrev pub oneMore : Bool → ℕ → ℕ
+oneMore true n = suc n
+oneMore false n = 0
+
+-- how many elements at the front of the list pass the test
+unfoldable pub run : (ℕ → Bool) → List ℕ → ℕ
+run test [] = 0
+run test (x ∷ xs) = oneMore (test x) (run test xs)
+
+-- every element passes: the run of those that do goes to the end
+abbrev pub Every : (ℕ → Bool) → List ℕ → Type 0
+Every test xs = run test xs ≡ length xs
+
+-- the first place from `from` on, before `to`, whose byte fails the test, or `to`: "Within one test the lowest place is named"
+unfoldable pub firstNot : (ℕ → Bool) → ℕ → ℕ → List ℕ → ℕ
+firstNot test from to l = from + run test (part from (to - from) l)
+
+-- "flow and key characters are A, C, G, T"
+abbrev pub isFlowCharacter : ℕ → Bool
+isFlowCharacter x = (eqb x 65 || eqb x 67) || (eqb x 71 || eqb x 84)
+
+-- "Name bytes are 33 to 126"
+abbrev pub isNameByte : ℕ → Bool
+isNameByte x = leb 33 x && leb x 126
+
+abbrev pub isZero : ℕ → Bool
+isZero x = eqb x 0
+
+-- the test that a case of the code's enum stands for
+abbrev pub passes : ByteTest → ℕ → Bool
+passes FlowCharacter = isFlowCharacter
+passes NameByte = isNameByte
+passes Zero = isZero

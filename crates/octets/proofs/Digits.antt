@@ -10,6 +10,7 @@ use native.Mathlib.Numerals.{add-one, add-two, add-three}
 use lib.Pow.{pow-add}
 use lib.Seq.{take-add, drop-drop}
 use Rattle.octets.proofs.Lists.{part-suc, length-part, put-sets, put-put, part-put}
+use Rattle.octets.proofs.AllBytes.{bytes-part}
 use Rattle.octets.specs.Numbers.{bigEndianFrom, bigEndian, number, bytesOf, Bytes}
 use Rattle.octets.specs.Parts.{part, putAt}
 
@@ -113,24 +114,6 @@ put-halves j k at v l h =
     let ys : List ℕ = bytesOf k (v % 256 ^ k) in
     let len : length xs ≡ j = length-bytesOf j (v / 256 ^ k) in
     rw (bytesOf-split, ← put-put at xs ys l (rw len h), len)
-
--- every element of a part is a byte, where every element of the list is: `c .slice-known .given` says that of a slice
-pub bytes-of : (l : List ℕ) → ((i : ℕ) → getD l i 0 < 256) → Bytes l
-bytes-of [] f = tt
-bytes-of (x ∷ xs) f = (f 0, bytes-of xs (λ i. f (suc i)))
-
-pub bytes-part : (at n : ℕ) (l : List ℕ) → Bytes l → Bytes (part at n l)
-bytes-part at n l b = front n (drop at l) (rest at l b)
-  where
-    front : (n : ℕ) (l : List ℕ) → Bytes l → Bytes (take n l)
-    front zero l b = tt
-    front (suc n) [] b = tt
-    front (suc n) (x ∷ xs) b = (b .0, front n xs (b .1))
-
-    rest : (n : ℕ) (l : List ℕ) → Bytes l → Bytes (drop n l)
-    rest zero l b = b
-    rest (suc n) [] b = tt
-    rest (suc n) (x ∷ xs) b = rest n xs (b .1)
 
 -- what was put is read back
 pub get-put : (k at v : ℕ) (l : List ℕ) → v < 256 ^ k → at + k ≤ length l → number k at (putAt at (bytesOf k v) l) ≡ v

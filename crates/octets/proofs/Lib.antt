@@ -1,7 +1,10 @@
--- `Lists`: parts and what is put; `Digits`: numbers over the width; `Stands`: what stands at a place, both ways; `Moves`, `Scan`, `Same`: the loops' invariants.
+-- `Lists`: parts and what is put. `AllBytes`, `Digits`: bytes, and numbers over the width. `Stands`, `Inserts`: what stands at a place, both ways.
+-- `Moves`, `Scan`, `Same`: the loops' invariants.
 pub mod Lists
+pub mod AllBytes
 pub mod Digits
 pub mod Stands
+pub mod Inserts
 pub mod Moves
 pub mod Scan
 pub mod Same

@@ -32,6 +32,16 @@ pub none : (p : ℕ → Bool) (to : ℕ) (l : List ℕ) → firstNot p to to l �
 unfolding firstNot run
 none p to l = let n : to - to ≡ 0 = omega arith in rw n (omega arith)
 
+-- a count that stops at the first failure is at most the length
+pub more-le : (t : Bool) (k n : ℕ) → k ≤ n → oneMore t k ≤ suc n
+more-le true k n h = omega arith
+more-le false k n h = omega arith
+
+pub run-le : (t : ℕ → Bool) (xs : List ℕ) → run t xs ≤ length xs
+unfolding run
+run-le t [] = omega arith
+run-le t (x ∷ xs) = more-le (t x) _ _ (run-le t xs)
+
 -- The invariant of a scan that goes up: what is sought from `from` on is sought from i on.
 pub record Seen (p : ℕ → Bool) (from to : ℕ) (l : List ℕ) (i : ℕ) : Type 0 where
   pub inside : to ≤ length l

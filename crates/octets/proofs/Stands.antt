@@ -11,7 +11,8 @@ use Rattle.octets.specs.Parts.{part, filled, Stands}
 use Rattle.octets.specs.Numbers.{bigEndian, bytesOf, Bytes, number, fields, words, wordsAt, Words}
 use Rattle.octets.specs.Scans.{run, isZero, Every}
 use Rattle.octets.proofs.Lists.{length-part}
-use Rattle.octets.proofs.Digits.{length-bytesOf, bigEndian-fits, bytesOf-bigEndian, bytes-part, bigEndian-small}
+use Rattle.octets.proofs.Digits.{length-bytesOf, bigEndian-fits, bytesOf-bigEndian, bigEndian-small}
+use Rattle.octets.proofs.AllBytes.{bytes-part}
 
 -- what is read stands there
 pub read-stands : (p n : ℕ) (b : List ℕ) → p + n ≤ length b → Stands p (part p n b) b

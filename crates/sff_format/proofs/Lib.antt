@@ -1,0 +1,12 @@
+pub mod Answers
+pub mod Sizes
+pub mod HeaderLaws
+pub mod ReadLaid
+pub mod ReadTaken
+pub mod Boundaries
+pub mod Indexes
+pub mod FileLaid
+pub mod FileTaken
+pub mod Written
+pub mod Format
+pub mod Loops

@@ -1,0 +1,30 @@
+-- What a test answers, and how tests follow one another. Assumes nothing: these are definitions.
+use Prim.Native.Nat.{ℕ}
+use mathlib.Core.Bool.{Bool, true, false}
+use lib.Dec.{ltb}
+use Rattle.sff_format.specs.declared.Answer.{Answer}
+use Rattle.sff_format.specs.declared.Answer.the-variants.{Accepted, Refused}
+
+-- "Every answer has a number (0 accepted) and a byte place, 0 where none is stated"
+abbrev pub numberOf : Answer → ℕ
+numberOf Accepted = 0
+numberOf (Refused n p) = n
+
+abbrev pub placeOf : Answer → ℕ
+placeOf Accepted = 0
+placeOf (Refused n p) = p
+
+-- number n at place p where the test holds
+unfoldable pub when : Bool → ℕ → ℕ → Answer
+when true n p = Refused n p
+when false n p = Accepted
+
+infixr 10 _then_
+-- the first of two tests that refuses
+unfoldable pub _then_ : Answer → Answer → Answer
+Accepted then b = b
+(Refused n p) then b = Refused n p
+
+-- number n at the place where a scan stopped, if it stopped short of the end: "Within one test the lowest place is named"
+abbrev pub stopped : ℕ → ℕ → ℕ → Answer
+stopped n p end = when (ltb p end) n p

@@ -1,0 +1,30 @@
+-- "Insert" of document 01: its first and last base, and its bases. Assumes nothing: these are definitions.
+use Prim.Native.Nat.{ℕ, suc, _-_, max, min}
+use mathlib.Core.Bool.{cond}
+use mathlib.Core.List.{List}
+use lib.ListN.{length}
+use lib.Dec.{eqb}
+use Rattle.octets.specs.Parts.{part}
+use Rattle.sff_format.specs.Model.{Read}
+
+-- "First = max(1, both lefts)"
+unfoldable pub firstBase : ℕ → ℕ → ℕ
+firstBase ql al = max 1 (max ql al)
+
+-- "a 0 read as N"
+unfoldable pub rightEnd : ℕ → ℕ → ℕ
+rightEnd n clip = cond (eqb clip 0) n clip
+
+-- "Last = min over both rights"
+unfoldable pub lastBase : ℕ → ℕ → ℕ → ℕ
+lastBase n qr ar = min (rightEnd n qr) (rightEnd n ar)
+
+abbrev pub insertFirst : Read → ℕ
+insertFirst r = firstBase (r .quality-left) (r .adapter-left)
+
+abbrev pub insertLast : Read → ℕ
+insertLast r = lastBase (length (r .bases)) (r .quality-right) (r .adapter-right)
+
+-- the bases from first to last, both from 1: none "If first > last"
+unfoldable pub insertOf : Read → List ℕ
+insertOf r = part (insertFirst r - 1) (suc (insertLast r) - insertFirst r) (r .bases)

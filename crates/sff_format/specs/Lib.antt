@@ -1,0 +1,12 @@
+-- In document 01's order: an answer; the rules; the model of a file and its layout; what a file may say; the tests; what an accepted file says; places; the insert; reading on.
+pub mod Answer
+pub mod Rules
+pub mod Model
+pub mod Valid
+pub mod HeaderTest
+pub mod ReadTest
+pub mod FileTest
+pub mod Parse
+pub mod Places
+pub mod Insert
+pub mod Step

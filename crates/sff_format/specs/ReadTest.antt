@@ -1,0 +1,86 @@
+-- The fields of the read at place p, and a read's tests in document 01's order. Assumes nothing: these are definitions.
+use Prim.Native.Nat.{ℕ, _+_, _-_, _*_}
+use mathlib.Core.Bool.{Bool, not}
+use mathlib.Core.List.{List}
+use lib.ListN.{length}
+use lib.Dec.{ltb, eqb}
+use Rattle.octets.specs.Parts.{part, up8}
+use Rattle.octets.specs.Numbers.{number}
+use Rattle.octets.specs.Scans.{firstNot, isNameByte, isZero}
+use Rattle.sff_format.specs.declared.Answer.{Answer}
+use Rattle.sff_format.specs.Answer.{when, stopped, _then_}
+use Rattle.sff_format.specs.Rules.{leftLimit, rightLimit, walkRun, callRun}
+
+-- the length of its header section
+abbrev pub sectionLength : List ℕ → ℕ → ℕ
+sectionLength b p = number 2 p b
+
+-- L
+abbrev pub nameLength : List ℕ → ℕ → ℕ
+nameLength b p = number 2 (p + 2) b
+
+-- N
+abbrev pub baseCount : List ℕ → ℕ → ℕ
+baseCount b p = number 4 (p + 4) b
+
+abbrev pub qualityLeft : List ℕ → ℕ → ℕ
+qualityLeft b p = number 2 (p + 8) b
+
+abbrev pub qualityRight : List ℕ → ℕ → ℕ
+qualityRight b p = number 2 (p + 10) b
+
+abbrev pub adapterLeft : List ℕ → ℕ → ℕ
+adapterLeft b p = number 2 (p + 12) b
+
+abbrev pub adapterRight : List ℕ → ℕ → ℕ
+adapterRight b p = number 2 (p + 14) b
+
+-- 5, 1, 6, 7: a header section of stated length s with a name of L bytes
+unfoldable pub nameTest : List ℕ → ℕ → ℕ → ℕ → Answer
+nameTest b p s L =
+    when (not (eqb s (up8 (16 + L)))) 5 p
+    then when (ltb (length b) (p + s)) 1 p
+    then stopped 6 (firstNot isNameByte (p + 16) (p + 16 + L) b) (p + 16 + L)
+    then stopped 7 (firstNot isZero (p + 16 + L) (p + s) b) (p + s)
+
+-- 9: the clips of a read of n bases, in file order
+unfoldable pub clipTest : ℕ → ℕ → ℕ → ℕ → ℕ → ℕ → Answer
+clipTest p n ql qr al ar =
+    when (ltb (leftLimit n) ql) 9 (p + 8)
+    then when (ltb (rightLimit n) qr) 9 (p + 10)
+    then when (ltb (leftLimit n) al) 9 (p + 12)
+    then when (ltb (rightLimit n) ar) 9 (p + 14)
+
+-- "The walk stops at the first base that breaks this": the place of its index byte among those from `from` to before `to`, or `to`
+unfoldable pub walk : ℕ → ℕ → ℕ → ℕ → List ℕ → ℕ
+walk F f from to b = from + walkRun F f (part from (to - from) b)
+
+-- the place of the first wrong base among those from `at` to before `to`, whose index bytes stand from `from` on, or `to`
+unfoldable pub calls : List ℕ → ℕ → ℕ → ℕ → ℕ → List ℕ → ℕ
+calls characters f from at to b = at + callRun characters f (part from (to - at) b) (part at (to - at) b)
+
+-- 10, 11: n index bytes from `at` on, and the n bases after them
+unfoldable pub basesTest : List ℕ → List ℕ → ℕ → ℕ → Answer
+basesTest characters b at n =
+    stopped 10 (walk (length characters) 0 at (at + n) b) (at + n)
+    then stopped 11 (calls characters 0 at (at + n) (at + n + n) b) (at + n + n)
+
+-- 1, 10, 11, 7: a data section at place d, of n bases
+unfoldable pub dataTest : List ℕ → List ℕ → ℕ → ℕ → Answer
+dataTest characters b d n =
+    let F = length characters in
+    when (ltb (length b) (d + up8 (2 * F + 3 * n))) 1 d
+    then basesTest characters b (d + 2 * F) n
+    then stopped 7 (firstNot isZero (d + (2 * F + 3 * n)) (d + up8 (2 * F + 3 * n)) b) (d + up8 (2 * F + 3 * n))
+
+-- "Read: 1 (under 16 bytes), 5, 1, 6, 7, 9, 1 (data), 10, 11, 7"
+unfoldable pub readTest : List ℕ → List ℕ → ℕ → Answer
+readTest characters b p =
+    when (ltb (length b) (p + 16)) 1 p
+    then nameTest b p (sectionLength b p) (nameLength b p)
+    then clipTest p (baseCount b p) (qualityLeft b p) (qualityRight b p) (adapterLeft b p) (adapterRight b p)
+    then dataTest characters b (p + sectionLength b p) (baseCount b p)
+
+-- where a read of F flow values ends
+unfoldable pub readEnd : ℕ → List ℕ → ℕ → ℕ
+readEnd F b p = p + sectionLength b p + up8 (2 * F + 3 * baseCount b p)

@@ -1,0 +1,104 @@
+-- "Reading on". Assumes nothing: these are definitions.
+use Prim.Native.Nat.{ℕ, zero, suc, _+_, _*_}
+use mathlib.Core.Bool.{Bool, false, cond}
+use mathlib.Core.List.{List, [], _∷_}
+use lib.ListN.{length}
+use lib.Dec.{ltb}
+use Rattle.octets.specs.Parts.{wholePart}
+use Rattle.sff_format.specs.declared.Answer.{Answer}
+use Rattle.sff_format.specs.declared.Answer.the-variants.{Accepted, Refused}
+use Rattle.sff_format.specs.declared.Stretch.{Stretch}
+use Rattle.sff_format.specs.declared.ReadView.{ReadView}
+use Rattle.sff_format.specs.Answer.{when, _then_}
+use Rattle.sff_format.specs.HeaderTest.{headerTest, headerLength, flows, flowCharacters, readCount}
+use Rattle.sff_format.specs.ReadTest.{sectionLength, nameLength, baseCount, qualityLeft, qualityRight, adapterLeft, adapterRight, readTest, readEnd}
+use Rattle.sff_format.specs.FileTest.{indexTest, pastIndex, nowPassed, endTest}
+
+-- "A reader's state holds a byte place, the reads passed and whether the index is passed"
+pub record State : Type 0 where
+  pub place : ℕ
+  pub passed-reads : ℕ
+  pub passed-index : Bool
+
+-- "A fresh state has passed nothing and stands at the header's end, or at 0 if the header is refused"
+unfoldable pub freshPlace : Answer → List ℕ → ℕ
+freshPlace Accepted b = headerLength b
+freshPlace (Refused n p) b = 0
+
+unfoldable pub fresh : List ℕ → State
+fresh b = record { place = freshPlace (headerTest b) b; passed-reads = 0; passed-index = false }
+
+-- the boundary at which a state reads on, past an index that stands where it is
+abbrev pub boundary : List ℕ → State → ℕ
+boundary b s = pastIndex b (s .place) (s .passed-index)
+
+abbrev pub indexPassed : List ℕ → State → Bool
+indexPassed b s = nowPassed b (s .place) (s .passed-index)
+
+-- "with no read left it answers 13, 12 or else 33", whose place is "the state's, past an index"
+unfoldable pub noneLeft : List ℕ → ℕ → Bool → Answer
+noneLeft b p passed = endTest b p passed then Refused 33 p
+
+-- "A step makes the header's tests, refuses a place beyond the file (1, that place), then does what a boundary asks"
+unfoldable pub stepTest : List ℕ → State → Answer
+stepTest b s =
+    headerTest b
+    then when (ltb (length b) (s .place)) 1 (s .place)
+    then indexTest b (s .place) (s .passed-index)
+    then cond (ltb (s .passed-reads) (readCount b))
+    (readTest (flowCharacters b) b (boundary b s))
+    (noneLeft b (boundary b s) (indexPassed b s))
+
+-- the state "moved by one read"
+abbrev pub moved : List ℕ → State → State
+moved b s = record { place = readEnd (flows b) b (boundary b s); passed-reads = s .passed-reads + 1; passed-index = indexPassed b s }
+
+-- what a step says of the read at place p, of F flow values
+unfoldable pub viewAt : ℕ → List ℕ → ℕ → ReadView
+viewAt F b p =
+    let d = p + sectionLength b p in
+    let n = baseCount b p in
+    record {
+      place = p;
+      name = record { at = p + 16; size = nameLength b p };
+      values = record { at = d; size = 2 * F };
+      increments = record { at = d + 2 * F; size = n };
+      bases = record { at = d + 2 * F + n; size = n };
+      qualities = record { at = d + 2 * F + n + n; size = n };
+      «quality_left» = qualityLeft b p;
+      «quality_right» = qualityRight b p;
+      «adapter_left» = adapterLeft b p;
+      «adapter_right» = adapterRight b p;
+    }
+
+-- a stretch of the file, none of it where it does not lie in the file whole
+abbrev pub bytesIn : List ℕ → Stretch → List ℕ
+bytesIn b x = wholePart (x .at) (x .size) b
+
+-- the read and the state after it, or a refusal and the state unmoved
+pub data Step : Type 0 where
+  found : ReadView → State → Step
+  stop : ℕ → ℕ → State → Step
+
+-- "A step that refuses, with 33 or any other number, gives back its state unmoved"
+unfoldable pub concluded : Answer → ReadView → State → State → Step
+concluded Accepted view next s = found view next
+concluded (Refused n p) view next s = stop n p s
+
+unfoldable pub step : List ℕ → State → Step
+step b s = concluded (stepTest b s) (viewAt (flows b) b (boundary b s)) (moved b s) s
+
+-- what a state that steps on and on is refused with, within k steps
+unfoldable pub lastAnswer : List ℕ → ℕ → State → Answer
+lastAnswer b zero s = Accepted
+lastAnswer b (suc k) s = let more = lastAnswer b k (moved b s) in stepTest b s then more
+
+-- what it says of the reads that it finds within k steps
+unfoldable pub onFound : (State → List ReadView) → Step → List ReadView
+onFound f (found view next) = view ∷ f next
+onFound f (stop n p s) = []
+
+unfoldable pub viewsFound : List ℕ → ℕ → State → List ReadView
+unfolding onFound
+viewsFound b zero s = []
+viewsFound b (suc k) s = onFound (viewsFound b k) (step b s)

@@ -1,0 +1,27 @@
+// The types that the definitions and the code share. There is no function here.
+
+// What a test answers: document 01's number of the refusal and its byte place.
+pub enum Answer {
+    Accepted,
+    Refused(u8, usize),
+}
+
+// Bytes of a file: the place of the first, and how many.
+pub struct Stretch {
+    pub at: usize,
+    pub size: usize,
+}
+
+// What a step says of a read: its place, where its contents lie, and its clips.
+pub struct ReadView {
+    pub place: usize,
+    pub name: Stretch,
+    pub values: Stretch,
+    pub increments: Stretch,
+    pub bases: Stretch,
+    pub qualities: Stretch,
+    pub quality_left: usize,
+    pub quality_right: usize,
+    pub adapter_left: usize,
+    pub adapter_right: usize,
+}

@@ -34,9 +34,21 @@ pub both-ok : (a b : Answer) → a ≡ Accepted → b ≡ Accepted → (a then b
 unfolding _then_
 both-ok a b e f = rw (e, f)
 
--- the two halves of an accepted chain
-pub halves : (a b : Answer) → (a then b) ≡ Accepted → (a ≡ Accepted) × (b ≡ Accepted)
-halves a b e = (first-ok a b e, second-ok a b e)
+pub then-accepted : (a : Answer) → (a then Accepted) ≡ a
+unfolding _then_
+then-accepted Accepted = refl
+then-accepted (Refused n p) = refl
+
+pub then-assoc : (a b c : Answer) → ((a then b) then c) ≡ (a then (b then c))
+unfolding _then_
+then-assoc Accepted b c = refl
+then-assoc (Refused n p) b c = refl
+
+-- what follows a test is looked at only where the test accepts
+pub then-on : (a b c : Answer) → (a ≡ Accepted → b ≡ c) → (a then b) ≡ (a then c)
+unfolding _then_
+then-on Accepted b c h = h refl
+then-on (Refused n p) b c h = refl
 
 pub when-ok : (t : Bool) (n p : ℕ) → when t n p ≡ Accepted → t ≡ false
 unfolding when

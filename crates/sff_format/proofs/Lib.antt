@@ -10,3 +10,6 @@ pub mod FileTaken
 pub mod Written
 pub mod Format
 pub mod Loops
+pub mod Split
+pub mod Places
+pub mod Steps

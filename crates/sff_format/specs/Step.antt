@@ -89,9 +89,14 @@ unfoldable pub step : List ℕ → State → Step
 step b s = concluded (stepTest b s) (viewAt (flows b) b (boundary b s)) (moved b s) s
 
 -- what a state that steps on and on is refused with, within k steps
+unfoldable pub onStop : (State → Answer) → Step → Answer
+onStop f (found view next) = f next
+onStop f (stop n p s) = Refused n p
+
 unfoldable pub lastAnswer : List ℕ → ℕ → State → Answer
+unfolding onStop
 lastAnswer b zero s = Accepted
-lastAnswer b (suc k) s = let more = lastAnswer b k (moved b s) in stepTest b s then more
+lastAnswer b (suc k) s = onStop (lastAnswer b k) (step b s)
 
 -- what it says of the reads that it finds within k steps
 unfoldable pub onFound : (State → List ReadView) → Step → List ReadView

@@ -1,0 +1,129 @@
+-- Where a walk over the bytes finds read i is where the layout has it. Assumes nothing.
+use Prim.Native.Nat.{ℕ, zero, suc, _+_, _≤_, _<_}
+use mathlib.Core.Path.{_≡_, refl, sym, ap, _∙_}
+use mathlib.Core.Bool.{Bool, true, false, cond}
+use mathlib.Core.List.{List, _++_}
+use native.Mathlib.Omega.{arith}
+use native.Mathlib.Nat.{add-zero}
+use lib.ListN.{length, take, drop, getD, length-append}
+use lib.Seq.{take-at, drop-at}
+use lib.Dec.{leb, eqb}
+use borrow.Author.Tests.{eqb-true, eqb-false, le-leb, lt-leb}
+use Rattle.octets.specs.Numbers.{Bytes}
+use Rattle.octets.proofs.Lists.{length-part}
+use Rattle.octets.proofs.Inserts.{drop-rest}
+use Rattle.sff_format.specs.declared.Answer.the-variants.{Accepted}
+use Rattle.sff_format.specs.Answer.{_then_}
+use Rattle.sff_format.specs.Model.{layoutRead, layoutReads, layoutIndex}
+use Rattle.sff_format.specs.Rules.{declared, indexSize}
+use Rattle.sff_format.specs.HeaderTest.{indexOffset, indexLength, readCount, headerLength, flows, flowCharacters, headerTest}
+use Rattle.sff_format.specs.ReadTest.{readTest, readEnd}
+use Rattle.sff_format.specs.FileTest.{indexHere, passTest, boundaryTest, fileTest}
+use Rattle.sff_format.specs.Parse.{parseRead, parseReads, parse}
+use Rattle.sff_format.specs.Places.{noRead, readAt, place, placeFrom, readPlace}
+use Rattle.sff_format.proofs.Answers.{first-ok, second-ok}
+use Rattle.sff_format.proofs.Sizes.{size-none}
+use Rattle.sff_format.proofs.HeaderLaws.{header-fits}
+use Rattle.sff_format.proofs.Boundaries.{Done, undeclared, here-done, here-not, here-is, boundary-read, boundary-index, parse-read, parse-index, place-here, place-read, place-index}
+use Rattle.sff_format.proofs.FileLaid.{ends, done, here-read, here-next, pending-laid, head-ok, sections-ok, header-size, index-passed, length-parsed, file-laid, file-valid}
+use Rattle.sff_format.proofs.Indexes.{indexOf, pass-fits, index-laid}
+use Rattle.sff_format.proofs.Split.{split}
+
+-- the read that is parsed at position i is the one at the place that the walk finds
+pub parse-at : (b : List ℕ) (n i p : ℕ) (q : Bool) → i < n → getD (parseReads b n p q) i noRead ≡ parseRead (flows b) b (placeFrom b i p q)
+unfolding parseReads placeFrom
+parse-at b zero i p q h = absurd (omega arith)
+parse-at b (suc n) zero p q h = refl
+parse-at b (suc n) (suc i) p q h = parse-at b n i _ _ (omega arith)
+
+module _ (b : List ℕ) (y : Bytes b) (head : headerTest b ≡ Accepted) where
+  plain-place : (n i p : ℕ) (q : Bool) → Done b q → boundaryTest b n p q ≡ Accepted → i < n → placeFrom b i p q ≡ p + length (layoutReads (take i (parseReads b n p q)))
+  unfolding layoutReads
+  plain-place zero i p q d e h = absurd (omega arith)
+  plain-place (suc n) zero p q d e h = rw (place-here b p q (here-done b p q d), add-zero)
+  plain-place (suc n) (suc i) p q d e h =
+      let g : indexHere b p q ≡ false = here-done b p q d in
+      let t : (readTest (flowCharacters b) b p then boundaryTest b n (readEnd (flows b) b p) q) ≡ Accepted = sym (boundary-read b p q g n) ∙ e in
+      let z : readEnd (flows b) b p ≡ p + length (layoutRead (parseRead (flows b) b p)) = ends b y head p (first-ok _ _ t) in
+      let more = plain-place n i (readEnd (flows b) b p) q d (second-ok _ _ t) (omega arith) in
+      rw (place-read b p q g i, parse-read b p q g n, more, length-append) (omega arith)
+
+  module _ (d : declared (indexOffset b) (indexLength b) ≡ true) where
+    -- past the index, if it stands no later than `at`
+    shift : ℕ → ℕ
+    shift at = at + cond (leb (indexOffset b) at) (indexSize (indexLength b)) 0
+
+    place-past : (n i : ℕ) → boundaryTest b n (indexOffset b) false ≡ Accepted → i < n
+        → placeFrom b i (indexOffset b) false ≡ shift (indexOffset b + length (layoutReads (take i (parseReads b n (indexOffset b) false))))
+    unfolding shift
+    place-past n i e h =
+        let off = indexOffset b in
+        let g : indexHere b off false ≡ true = here-is b off d refl in
+        let t : (passTest b off then boundaryTest b n (off + indexSize (indexLength b)) true) ≡ Accepted = sym (boundary-index b off false g n) ∙ e in
+        let more = plain-place n i (off + indexSize (indexLength b)) true (rw d) (second-ok _ _ t) h in
+        rw (place-index b off false g i, parse-index b off false g n, more, le-leb off (off + length (layoutReads (take i (parseReads b n (off + indexSize (indexLength b)) true)))) (omega arith)) (omega arith)
+
+    pending-place : (n i p : ℕ) → p ≤ length b → boundaryTest b n p false ≡ Accepted → i < n → placeFrom b i p false ≡ shift (p + length (layoutReads (take i (parseReads b n p false))))
+    unfolding shift layoutReads
+    pending-place zero i p l e h = absurd (omega arith)
+    pending-place (suc n) zero p l e h = go (eqb p (indexOffset b)) refl
+      where
+        go : (t : Bool) → eqb p (indexOffset b) ≡ t → placeFrom b 0 p false ≡ p + 0 + cond (leb (indexOffset b) (p + 0)) (indexSize (indexLength b)) 0
+        go true c = let a : p ≡ indexOffset b = eqb-true p (indexOffset b) c in rw a (place-past (suc n) 0 (rw a at e) h)
+        go false c =
+            let f : p ≡ indexOffset b → ⊥ = eqb-false p (indexOffset b) c in
+            let m = pending-laid b y head d (suc n) p l e .met in
+            rw (place-here b p false (here-not b p false f), add-zero, lt-leb (indexOffset b) p (omega arith)) (omega arith)
+    pending-place (suc n) (suc i) p l e h = go (eqb p (indexOffset b)) refl (λ p′ l′ e′. pending-place n i p′ l′ e′ (omega arith))
+      where
+        go : (t : Bool) → eqb p (indexOffset b) ≡ t
+            → ((p′ : ℕ) → p′ ≤ length b → boundaryTest b n p′ false ≡ Accepted → placeFrom b i p′ false ≡ shift (p′ + length (layoutReads (take i (parseReads b n p′ false)))))
+            → placeFrom b (suc i) p false ≡ shift (p + length (layoutReads (take (suc i) (parseReads b (suc n) p false))))
+        go true c more = let a : p ≡ indexOffset b = eqb-true p (indexOffset b) c in rw a (place-past (suc n) (suc i) (rw a at e) h)
+        go false c more =
+            let g : indexHere b p false ≡ false = here-not b p false (eqb-false p (indexOffset b) c) in
+            let t = here-read b y head d n p g l e in
+            let z : readEnd (flows b) b p ≡ p + length (layoutRead (parseRead (flows b) b p)) = ends b y head p (first-ok _ _ t) in
+            let rest : List ℕ = layoutReads (take i (parseReads b n (readEnd (flows b) b p) false)) in
+            let k : readEnd (flows b) b p + length rest ≡ p + (length (layoutRead (parseRead (flows b) b p)) + length rest) = omega arith in
+            rw (place-read b p false g i, parse-read b p false g n, length-append, more (readEnd (flows b) b p) (here-next b y head d n p g l e) (second-ok _ _ t), k)
+
+module _ (b : List ℕ) (y : Bytes b) (e : fileTest b ≡ Accepted) (i : ℕ) (h : i < readCount b) where
+  pub read-found : readAt (parse b) i ≡ parseRead (flows b) b (readPlace b i)
+  unfolding parse readPlace
+  read-found = parse-at b (readCount b) i (headerLength b) false h
+
+  index-size : length (layoutIndex (indexOf b)) ≡ indexSize (indexLength b)
+  index-size = rw (index-laid b (index-passed b y e)) (length-part (indexOffset b) (indexSize (indexLength b)) b (pass-fits b (indexOffset b) (index-passed b y e)))
+
+  found : (t : Bool) → declared (indexOffset b) (indexLength b) ≡ t → (at : ℕ) → at ≡ headerLength b + length (layoutReads (take i (parseReads b (readCount b) (headerLength b) false)))
+      → placeFrom b i (headerLength b) false ≡ at + cond (leb (indexOffset b) at) (indexSize (indexLength b)) 0
+  unfolding shift
+  found true d at a = rw a (pending-place b y (head-ok b y e) d (readCount b) i (headerLength b) (header-fits b (head-ok b y e)) (sections-ok b y e) h)
+  found false d at a =
+      let u = undeclared (indexOffset b) (indexLength b) d in
+      let l : indexLength b ≡ 0 = u .1 in
+      let z : indexSize (indexLength b) ≡ 0 = ap indexSize l ∙ size-none in
+      let done : Done b false = rw d in
+      rw (a, z, none (leb (indexOffset b) _), add-zero) (plain-place b y (head-ok b y e) (readCount b) i (headerLength b) false done (sections-ok b y e) h)
+    where
+      none : (t : Bool) → _≡_ {A = ℕ} (cond t 0 0) 0
+      none true = refl
+      none false = refl
+
+  pub place-found : readPlace b i ≡ place (parse b) i
+  unfolding parse readPlace place
+  place-found = rw index-size (found (declared (indexOffset b) (indexLength b)) refl _ (ap (λ (n : ℕ). n + length (layoutReads (take i (parseReads b (readCount b) (headerLength b) false)))) (header-size b y e)))
+
+  -- an accepted file at read i: what stands before it, its sections, and what stands after
+  pub read-split : b ≡ take (readPlace b i) b ++ (layoutRead (readAt (parse b) i) ++ drop (readPlace b i + length (layoutRead (readAt (parse b) i))) b)
+  unfolding parse
+  read-split =
+      let v : List ℕ = layoutRead (readAt (parse b) i) in
+      let s = split (parse b) i (rw (length-parsed b (readCount b) (headerLength b) false) h) (file-valid b y e) in
+      let is : b ≡ s .front ++ (v ++ s .back) = sym (file-laid b y e) ∙ s .is in
+      let p : length (s .front) ≡ readPlace b i = s .size ∙ sym place-found in
+      let front : take (readPlace b i) b ≡ s .front = ap (take (readPlace b i)) is ∙ take-at (s .front) (v ++ s .back) (readPlace b i) p in
+      let rest : drop (readPlace b i) b ≡ v ++ s .back = ap (drop (readPlace b i)) is ∙ drop-at (s .front) (v ++ s .back) (readPlace b i) p in
+      let back : drop (readPlace b i + length v) b ≡ s .back = drop-rest (readPlace b i) v (s .back) b rest in
+      rw (front, back) is

@@ -1,0 +1,158 @@
+-- Steps from a fresh state: the reads in order, each once, then 33; or the whole-file test's refusal at last. Assumes nothing.
+use Prim.Native.Nat.{ℕ, zero, suc, _+_, _*_, _≤_}
+use mathlib.Core.Path.{_≡_, refl, sym, ap, _∙_}
+use mathlib.Core.Bool.{Bool, true, false, cond}
+use mathlib.Core.List.{List, [], _∷_, map}
+use native.Mathlib.Omega.{arith}
+use lib.ListN.{length}
+use borrow.Author.Tests.{lt-ltb, le-ltb}
+use Rattle.octets.specs.Parts.{up8}
+use Rattle.sff_format.specs.declared.Answer.{Answer}
+use Rattle.sff_format.specs.declared.Answer.the-variants.{Accepted, Refused}
+use Rattle.sff_format.specs.declared.ReadView.{ReadView}
+use Rattle.sff_format.specs.Answer.{when, _then_}
+use Rattle.sff_format.specs.Rules.{indexSize}
+use Rattle.sff_format.specs.Model.{Read}
+use Rattle.sff_format.specs.HeaderTest.{indexLength, headerTest, headerLength, flows, flowCharacters, readCount}
+use Rattle.sff_format.specs.ReadTest.{sectionLength, baseCount, readTest, dataTest, readEnd}
+use Rattle.sff_format.specs.FileTest.{indexHere, passTest, indexTest, pastIndex, nowPassed, endTest, boundaryTest, fileTest}
+use Rattle.sff_format.specs.Step.{State, found, stop, concluded, stepTest, noneLeft, moved, boundary, indexPassed, viewAt, step, freshPlace, fresh, onStop, lastAnswer, onFound, viewsFound}
+use Rattle.sff_format.specs.Parse.{parseRead, parseReads, parse}
+use Rattle.sff_format.proofs.Answers.{first-ok, second-ok, both-ok, under-ok, then-accepted, then-assoc, then-on}
+use Rattle.sff_format.proofs.HeaderLaws.{header-fits, characters-length}
+use Rattle.sff_format.proofs.Indexes.{pass-fits}
+
+-- past an index that is not cut short the boundary is within the file
+pub past-fits : (b : List ℕ) (p : ℕ) (q : Bool) → p ≤ length b → indexTest b p q ≡ Accepted → pastIndex b p q ≤ length b
+unfolding indexTest pastIndex
+past-fits b p q l e = go (indexHere b p q) e
+  where
+    go : (t : Bool) → cond t (passTest b p) Accepted ≡ Accepted → cond t (p + indexSize (indexLength b)) p ≤ length b
+    go true f = pass-fits b p f
+    go false f = l
+
+-- at an accepted end all bytes are used
+end-place : (b : List ℕ) (p : ℕ) (q : Bool) → p ≤ length b → endTest b p q ≡ Accepted → p ≡ length b
+unfolding endTest
+end-place b p q l e = let h = under-ok p (length b) _ _ (second-ok _ _ e) in omega arith
+
+-- a step that is accepted finds a read, and one that is not gives its state back
+pub step-found : (b : List ℕ) (s : State) → stepTest b s ≡ Accepted → step b s ≡ found (viewAt (flows b) b (boundary b s)) (moved b s)
+unfolding step concluded
+step-found b s e = rw e
+
+pub step-stop : (b : List ℕ) (s : State) (n p : ℕ) → stepTest b s ≡ Refused n p → step b s ≡ stop n p s
+unfolding step concluded
+step-stop b s n p e = rw e
+
+last-step : (b : List ℕ) (k : ℕ) (s : State) → lastAnswer b (suc k) s ≡ (stepTest b s then lastAnswer b k (moved b s))
+unfolding lastAnswer onStop step concluded _then_
+last-step b k s = go (stepTest b s)
+  where
+    go : (a : Answer) → onStop (lastAnswer b k) (concluded a (viewAt (flows b) b (boundary b s)) (moved b s) s) ≡ (a then lastAnswer b k (moved b s))
+    go Accepted = refl
+    go (Refused n p) = refl
+
+last-none : (b : List ℕ) (s : State) → lastAnswer b 0 s ≡ Accepted
+unfolding lastAnswer
+last-none b s = refl
+
+-- the read that a view is of
+abbrev pub readOf : List ℕ → ReadView → Read
+readOf b v = parseRead (flows b) b (v .place)
+
+module _ (b : List ℕ) (head : headerTest b ≡ Accepted) where
+  pub read-fits : (p : ℕ) → readTest (flowCharacters b) b p ≡ Accepted → readEnd (flows b) b p ≤ length b
+  unfolding readTest dataTest readEnd
+  read-fits p e =
+      let f : p + sectionLength b p + up8 (2 * length (flowCharacters b) + 3 * baseCount b p) ≤ length b = under-ok _ _ _ _ (first-ok _ _ (second-ok _ _ (second-ok _ _ (second-ok _ _ e)))) in
+      rw (characters-length b head) at f
+
+  module _ (s : State) (l : s .place ≤ length b) where
+    -- a step at a boundary with a read left, and with none
+    test-read : (n : ℕ) → s .passed-reads + suc n ≡ readCount b
+        → stepTest b s ≡ (indexTest b (s .place) (s .passed-index) then readTest (flowCharacters b) b (boundary b s))
+    unfolding stepTest _then_ when
+    test-read n e = rw (head, le-ltb (length b) (s .place) l, lt-ltb (s .passed-reads) (readCount b) (omega arith))
+
+    test-none : s .passed-reads + 0 ≡ readCount b
+        → stepTest b s ≡ (indexTest b (s .place) (s .passed-index) then (endTest b (boundary b s) (indexPassed b s) then Refused 33 (boundary b s)))
+    unfolding stepTest noneLeft _then_ when
+    test-none e = rw (head, le-ltb (length b) (s .place) l, le-ltb (s .passed-reads) (readCount b) (omega arith))
+
+    -- what the whole-file test says of the boundary, with 33 at its end
+    end-none : (indexTest b (s .place) (s .passed-index) then (endTest b (boundary b s) (indexPassed b s) then Refused 33 (boundary b s)))
+        ≡ (boundaryTest b 0 (s .place) (s .passed-index) then Refused 33 (length b))
+    unfolding boundaryTest
+    end-none =
+        then-on _ _ _ (λ i. then-on _ _ _ (λ g. ap (Refused 33) (end-place b (boundary b s) (indexPassed b s) (past-fits b (s .place) (s .passed-index) l i) g)))
+        ∙ sym (then-assoc (indexTest b (s .place) (s .passed-index)) (endTest b (boundary b s) (indexPassed b s)) (Refused 33 (length b)))
+
+    end-read : (n : ℕ) (more : Answer)
+        → (readTest (flowCharacters b) b (boundary b s) ≡ Accepted → more ≡ (boundaryTest b n (moved b s .place) (moved b s .passed-index) then Refused 33 (length b)))
+        → ((indexTest b (s .place) (s .passed-index) then readTest (flowCharacters b) b (boundary b s)) then more)
+        ≡ (boundaryTest b (suc n) (s .place) (s .passed-index) then Refused 33 (length b))
+    unfolding boundaryTest
+    end-read n more h =
+        let i : Answer = indexTest b (s .place) (s .passed-index) in
+        let r : Answer = readTest (flowCharacters b) b (boundary b s) in
+        let m : Answer = boundaryTest b n (moved b s .place) (moved b s .passed-index) in
+        then-assoc i r more ∙ ap (λ (x : Answer). i then x) (then-on r more (m then Refused 33 (length b)) h)
+        ∙ ap (λ (x : Answer). i then x) (sym (then-assoc r m (Refused 33 (length b)))) ∙ sym (then-assoc i (r then m) (Refused 33 (length b)))
+
+  ended : (n : ℕ) (s : State) → s .passed-reads + n ≡ readCount b → s .place ≤ length b
+      → lastAnswer b (suc n) s ≡ (boundaryTest b n (s .place) (s .passed-index) then Refused 33 (length b))
+  ended zero s e l = last-step b 0 s ∙ rw (last-none b (moved b s), then-accepted, test-none s l e) (end-none s l)
+  ended (suc n) s e l =
+      last-step b (suc n) s ∙ rw (test-read s l n e)
+      (end-read s l n (lastAnswer b (suc n) (moved b s)) (λ r. ended n (moved b s) (omega arith) (read-fits (boundary b s) r)))
+
+  -- an accepted boundary with no read left, and with one
+  accepted-none : (s : State) → boundaryTest b 0 (s .place) (s .passed-index) ≡ Accepted
+      → (indexTest b (s .place) (s .passed-index) ≡ Accepted) × (endTest b (boundary b s) (indexPassed b s) ≡ Accepted)
+  unfolding boundaryTest
+  accepted-none s a = (first-ok _ _ a, second-ok _ _ a)
+
+  accepted-read : (n : ℕ) (s : State) → boundaryTest b (suc n) (s .place) (s .passed-index) ≡ Accepted
+      → (indexTest b (s .place) (s .passed-index) ≡ Accepted) × (readTest (flowCharacters b) b (boundary b s) ≡ Accepted)
+      × (boundaryTest b n (moved b s .place) (moved b s .passed-index) ≡ Accepted)
+  unfolding boundaryTest
+  accepted-read n s a = (first-ok _ _ a, first-ok _ _ (second-ok _ _ a), second-ok _ _ (second-ok _ _ a))
+
+  reads-found : (n : ℕ) (s : State) → s .passed-reads + n ≡ readCount b → s .place ≤ length b → boundaryTest b n (s .place) (s .passed-index) ≡ Accepted
+      → map (readOf b) (viewsFound b (suc n) s) ≡ parseReads b n (s .place) (s .passed-index)
+  unfolding viewsFound onFound parseReads viewAt _then_
+  reads-found zero s e l a =
+      let t = accepted-none s a in
+      rw (step-stop b s 33 (boundary b s) (test-none s l e ∙ rw (t .0, t .1)))
+  reads-found (suc n) s e l a =
+      let t = accepted-read n s a in
+      let r : readTest (flowCharacters b) b (boundary b s) ≡ Accepted = t .1 in
+      rw (step-found b s (test-read s l n e ∙ rw (t .0, r)), reads-found n (moved b s) (omega arith) (read-fits (boundary b s) r) (t .2))
+
+-- from a fresh state: the whole-file test's refusal at last, or 33 at the file's end
+pub steps-end : (b : List ℕ) → lastAnswer b (suc (readCount b)) (fresh b) ≡ (fileTest b then Refused 33 (length b))
+unfolding fileTest fresh freshPlace stepTest _then_
+steps-end b = go (headerTest b) refl
+  where
+    go : (a : Answer) → headerTest b ≡ a → lastAnswer b (suc (readCount b)) (record { place = freshPlace a b; passed-reads = 0; passed-index = false })
+        ≡ ((a then boundaryTest b (readCount b) (headerLength b) false) then Refused 33 (length b))
+    go Accepted h = ended b h (readCount b) _ (omega arith) (header-fits b h)
+    go (Refused n p) h = last-step b (readCount b) _ ∙ rw h
+
+module _ (b : List ℕ) (e : fileTest b ≡ Accepted) where
+  fresh-is : fresh b ≡ record { place = headerLength b; passed-reads = 0; passed-index = false }
+  unfolding fileTest fresh freshPlace
+  fresh-is = let h : headerTest b ≡ Accepted = first-ok _ _ e in rw h
+
+  -- "From a fresh state an accepted file's reads come in order, each once"
+  pub reads-in-order : map (readOf b) (viewsFound b (suc (readCount b)) (fresh b)) ≡ parse b .reads
+  unfolding fileTest parse
+  reads-in-order =
+      let h : headerTest b ≡ Accepted = first-ok _ _ e in
+      rw fresh-is (reads-found b h (readCount b) _ (omega arith) (header-fits b h) (second-ok _ _ e))
+
+  -- "then 33"
+  pub then-33 : lastAnswer b (suc (readCount b)) (fresh b) ≡ Refused 33 (length b)
+  unfolding _then_
+  then-33 = steps-end b ∙ rw e

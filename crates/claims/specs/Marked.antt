@@ -1,0 +1,78 @@
+-- Document 01's "Checked examples" that are marked P, as one table. Assumes nothing: these are definitions.
+use Prim.Native.Nat.{ℕ}
+use mathlib.Core.Path.{_≡_}
+use mathlib.Core.List.{List, [], _∷_}
+use lib.ListN.{length, set, take}
+use Rattle.sff_format.specs.declared.Answer.{Answer}
+use Rattle.sff_format.specs.declared.Answer.the-variants.{Accepted, Refused}
+use Rattle.sff_format.specs.Model.{File, noIndex, layout}
+use Rattle.sff_format.specs.FileTest.{fileTest}
+
+-- what a row says: a file is written so; these bytes are so many; the whole-file test answers so
+pub data Case : Type 0 where
+  written : File → List ℕ → Case
+  sized : List ℕ → ℕ → Case
+  tested : List ℕ → Answer → Case
+
+abbrev pub Holds : Case → Type 0
+Holds (written f b) = layout f ≡ b
+Holds (sized b n) = length b ≡ n
+Holds (tested b a) = fileTest b ≡ a
+
+abbrev pub All : List Case → Type 0
+All [] = Unit {0}
+All (c ∷ cs) = Holds c × All cs
+
+-- "File E: flows TACG, key T, one read r1, values 100 0 200 0, indexes 1 2 0, bases TCC, qualities 40 40 40, quality left 2"
+abbrev pub e : File
+e = record {
+  flow-characters = 84 ∷ 65 ∷ 67 ∷ 71 ∷ [];
+  key = 84 ∷ [];
+  index = noIndex;
+  reads =
+      record {
+        name = 114 ∷ 49 ∷ [];
+        quality-left = 2;
+        quality-right = 0;
+        adapter-left = 0;
+        adapter-right = 0;
+        values = 100 ∷ 0 ∷ 200 ∷ 0 ∷ [];
+        increments = 1 ∷ 2 ∷ 0 ∷ [];
+        bases = 84 ∷ 67 ∷ 67 ∷ [];
+        qualities = 40 ∷ 40 ∷ 40 ∷ [];
+      }
+      ∷ [];
+}
+
+-- header, the read's header section, its data section
+abbrev pub eBytes : List ℕ
+eBytes =
+    0x2E ∷ 0x73 ∷ 0x66 ∷ 0x66 ∷ 0 ∷ 0 ∷ 0 ∷ 1 ∷ 0 ∷ 0 ∷ 0 ∷ 0 ∷ 0 ∷ 0 ∷ 0 ∷ 0
+    ∷ 0 ∷ 0 ∷ 0 ∷ 0 ∷ 0 ∷ 0 ∷ 0 ∷ 1 ∷ 0 ∷ 40 ∷ 0 ∷ 1 ∷ 0 ∷ 4 ∷ 1 ∷ 84 ∷ 65 ∷ 67 ∷ 71 ∷ 84 ∷ 0 ∷ 0 ∷ 0 ∷ 0
+    ∷ 0 ∷ 24 ∷ 0 ∷ 2 ∷ 0 ∷ 0 ∷ 0 ∷ 3 ∷ 0 ∷ 2 ∷ 0 ∷ 0 ∷ 0 ∷ 0 ∷ 0 ∷ 0 ∷ 114 ∷ 49 ∷ 0 ∷ 0 ∷ 0 ∷ 0 ∷ 0 ∷ 0
+    ∷ 0 ∷ 100 ∷ 0 ∷ 0 ∷ 0 ∷ 200 ∷ 0 ∷ 0 ∷ 1 ∷ 2 ∷ 0 ∷ 84 ∷ 67 ∷ 67 ∷ 40 ∷ 40 ∷ 40 ∷ 0 ∷ 0 ∷ 0 ∷ 0 ∷ 0 ∷ 0 ∷ 0
+    ∷ []
+
+-- "F = K = 0, no reads"
+abbrev pub bare : File
+bare = record { flow-characters = []; key = []; index = noIndex; reads = [] }
+
+abbrev pub bareBytes : List ℕ
+bareBytes =
+    0x2E ∷ 0x73 ∷ 0x66 ∷ 0x66 ∷ 0 ∷ 0 ∷ 0 ∷ 1 ∷ 0 ∷ 0 ∷ 0 ∷ 0 ∷ 0 ∷ 0 ∷ 0 ∷ 0
+    ∷ 0 ∷ 0 ∷ 0 ∷ 0 ∷ 0 ∷ 0 ∷ 0 ∷ 0 ∷ 0 ∷ 32 ∷ 0 ∷ 0 ∷ 0 ∷ 0 ∷ 1 ∷ 0
+    ∷ []
+
+abbrev pub table : List Case
+table =
+    -- "E is 40+24+24 = 88 bytes"
+    written e eBytes ∷ sized eBytes 88 ∷ tested eBytes Accepted
+    -- "F = K = 0, no reads: 32 bytes accepted; its first 31 refused, 1 at 0"
+    ∷ written bare bareBytes ∷ sized bareBytes 32 ∷ tested bareBytes Accepted ∷ tested (take 31 bareBytes) (Refused 1 0)
+    -- "clip 3 accepted, 4 gives 9"
+    ∷ tested (set eBytes 49 3) Accepted ∷ tested (set eBytes 49 4) (Refused 9 48)
+    -- "increments 1 4 give 10", "first increment 0 gives 10"
+    ∷ tested (set eBytes 73 4) (Refused 10 73) ∷ tested (set eBytes 72 0) (Refused 10 72)
+    -- "base T at flow 3 gives 11; N is accepted"
+    ∷ tested (set eBytes 77 84) (Refused 11 77) ∷ tested (set eBytes 77 78) Accepted
+    ∷ []

@@ -1,0 +1,1 @@
+// Claims alone: there is no code here.

@@ -16,7 +16,7 @@ use Rattle.sff_format.specs.Model.{Read}
 use Rattle.sff_format.specs.HeaderTest.{indexLength, headerTest, headerLength, flows, flowCharacters, readCount}
 use Rattle.sff_format.specs.ReadTest.{sectionLength, baseCount, readTest, dataTest, readEnd}
 use Rattle.sff_format.specs.FileTest.{indexHere, passTest, indexTest, pastIndex, nowPassed, endTest, boundaryTest, fileTest}
-use Rattle.sff_format.specs.Step.{State, found, stop, concluded, stepTest, noneLeft, moved, boundary, indexPassed, viewAt, step, freshPlace, fresh, onStop, lastAnswer, onFound, viewsFound}
+use Rattle.sff_format.specs.Step.{State, found, stop, concluded, stepTest, readOrNone, moved, boundary, indexPassed, viewAt, step, freshPlace, fresh, onStop, lastAnswer, onFound, viewsFound}
 use Rattle.sff_format.specs.Parse.{parseRead, parseReads, parse}
 use Rattle.sff_format.proofs.Answers.{first-ok, second-ok, both-ok, under-ok, then-accepted, then-assoc, then-on}
 use Rattle.sff_format.proofs.HeaderLaws.{header-fits, characters-length}
@@ -72,12 +72,12 @@ module _ (b : List ℕ) (head : headerTest b ≡ Accepted) where
     -- a step at a boundary with a read left, and with none
     test-read : (n : ℕ) → s .passed-reads + suc n ≡ readCount b
         → stepTest b s ≡ (indexTest b (s .place) (s .passed-index) then readTest (flowCharacters b) b (boundary b s))
-    unfolding stepTest _then_ when
+    unfolding stepTest readOrNone _then_ when
     test-read n e = rw (head, le-ltb (length b) (s .place) l, lt-ltb (s .passed-reads) (readCount b) (omega arith))
 
     test-none : s .passed-reads + 0 ≡ readCount b
         → stepTest b s ≡ (indexTest b (s .place) (s .passed-index) then (endTest b (boundary b s) (indexPassed b s) then Refused 33 (boundary b s)))
-    unfolding stepTest noneLeft _then_ when
+    unfolding stepTest readOrNone _then_ when
     test-none e = rw (head, le-ltb (length b) (s .place) l, le-ltb (s .passed-reads) (readCount b) (omega arith))
 
     -- what the whole-file test says of the boundary, with 33 at its end

@@ -35,9 +35,12 @@ boundary b s = pastIndex b (s .place) (s .passed-index)
 abbrev pub indexPassed : List ℕ → State → Bool
 indexPassed b s = nowPassed b (s .place) (s .passed-index)
 
--- "with no read left it answers 13, 12 or else 33", whose place is "the state's, past an index"
-unfoldable pub noneLeft : List ℕ → ℕ → Bool → Answer
-noneLeft b p passed = endTest b p passed then Refused 33 p
+-- past any index: a read; or "with no read left it answers 13, 12 or else 33", whose place is "the state's, past an index"
+unfoldable pub readOrNone : List ℕ → ℕ → ℕ → Bool → Answer
+readOrNone b p n passed =
+    cond (ltb n (readCount b))
+    (readTest (flowCharacters b) b p)
+    (endTest b p passed then Refused 33 p)
 
 -- "A step makes the header's tests, refuses a place beyond the file (1, that place), then does what a boundary asks"
 unfoldable pub stepTest : List ℕ → State → Answer
@@ -45,9 +48,7 @@ stepTest b s =
     headerTest b
     then when (ltb (length b) (s .place)) 1 (s .place)
     then indexTest b (s .place) (s .passed-index)
-    then cond (ltb (s .passed-reads) (readCount b))
-    (readTest (flowCharacters b) b (boundary b s))
-    (noneLeft b (boundary b s) (indexPassed b s))
+    then readOrNone b (boundary b s) (s .passed-reads) (indexPassed b s)
 
 -- the state "moved by one read"
 abbrev pub moved : List ℕ → State → State

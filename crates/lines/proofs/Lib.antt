@@ -1,0 +1,3 @@
+-- `Lengths`: how long a line can be; `Cases`: document 01's own lines.
+pub mod Lengths
+pub mod Cases

@@ -1,0 +1,67 @@
+-- The lines that the lister prints: of a file's header, of a read, of a refusal. Assumes nothing: these are definitions.
+use Prim.Native.Nat.{ℕ}
+use mathlib.Core.List.{List, [], _∷_, _++_}
+use Rattle.text.specs.Writing.{orDash}
+use Rattle.text.specs.Decimal.{decimal}
+
+-- " "
+abbrev pub space : ℕ
+space = 32
+
+-- the end of a line
+abbrev pub newline : ℕ
+newline = 10
+
+-- "flows "
+abbrev pub flowsLabel : List ℕ
+flowsLabel = 102 ∷ 108 ∷ 111 ∷ 119 ∷ 115 ∷ 32 ∷ []
+
+-- "key "
+abbrev pub keyLabel : List ℕ
+keyLabel = 107 ∷ 101 ∷ 121 ∷ 32 ∷ []
+
+-- "reads "
+abbrev pub readsLabel : List ℕ
+readsLabel = 114 ∷ 101 ∷ 97 ∷ 100 ∷ 115 ∷ 32 ∷ []
+
+-- "refused "
+abbrev pub refusedLabel : List ℕ
+refusedLabel = 114 ∷ 101 ∷ 102 ∷ 117 ∷ 115 ∷ 101 ∷ 100 ∷ 32 ∷ []
+
+-- "at "
+abbrev pub atLabel : List ℕ
+atLabel = 97 ∷ 116 ∷ 32 ∷ []
+
+-- a number, and the byte that ends it
+unfoldable pub numberField : ℕ → ℕ → List ℕ
+numberField n end = decimal n ++ (end ∷ [])
+
+-- a name, a key or an insert, and the byte that ends it
+unfoldable pub wordField : List ℕ → ℕ → List ℕ
+wordField xs end = orDash xs ++ (end ∷ [])
+
+-- a number behind its label
+unfoldable pub labelledNumber : List ℕ → ℕ → ℕ → List ℕ
+labelledNumber label n end = label ++ numberField n end
+
+-- a name, a key or an insert behind its label
+unfoldable pub labelledWord : List ℕ → List ℕ → ℕ → List ℕ
+labelledWord label xs end = label ++ wordField xs end
+
+-- document 01: "flows 4 key T reads 1"
+unfoldable pub headerLine : ℕ → List ℕ → ℕ → List ℕ
+headerLine flows key reads =
+    labelledNumber flowsLabel flows space ++ labelledWord keyLabel key space ++ labelledNumber readsLabel reads newline
+
+-- the part "N, first, last" of a read's line
+unfoldable pub extent : ℕ → ℕ → ℕ → List ℕ
+extent bases first last = numberField bases space ++ numberField first space ++ numberField last space
+
+-- document 01: "A read's line is position, name, N, first, last, insert"
+unfoldable pub readLine : ℕ → List ℕ → ℕ → ℕ → ℕ → List ℕ → List ℕ
+readLine position name bases first last insert =
+    numberField position space ++ wordField name space ++ extent bases first last ++ wordField insert newline
+
+-- document 01: "A refusal is one line and nothing else, as `refused 9 at 48`"
+unfoldable pub refusalLine : ℕ → ℕ → List ℕ
+refusalLine number place = labelledNumber refusedLabel number space ++ labelledNumber atLabel place newline

@@ -1,0 +1,13 @@
+-- What the code's forms say in the definitions' words. Assumes nothing: these are definitions.
+use Rattle.sff_format.specs.Step.{State, found, stop}
+use Rattle.sff_format.specs.Step as format
+use Rattle.sff.specs.declared.reader.Reader.{Reader}
+use Rattle.sff.specs.declared.reader.Step.{Step}
+use Rattle.sff.specs.declared.reader.Step.the-variants.{Found, Stopped}
+
+abbrev pub stateOf : Reader → State
+stateOf r = record { place = r .place; passed-reads = r .«passed_reads»; passed-index = r .«passed_index» }
+
+abbrev pub stepOf : Step → format.Step
+stepOf (Found view next) = found view (stateOf next)
+stepOf (Stopped number place unmoved) = stop number place (stateOf unmoved)

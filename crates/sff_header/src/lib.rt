@@ -1,0 +1,123 @@
+// The header's tests.
+ghost use mathlib.Core.Path.{_≡_};
+ghost use Prim.Native.Nat.{_+_, _≤_, _<_};
+ghost use lib.ListN.{length};
+ghost use Rattle.octets.specs.Parts.{up8};
+ghost use Rattle.sff_format.specs.Rules.{declared, badIndexLength, badIndex, indexSize};
+ghost use Rattle.sff_format.specs.HeaderTest.{fixedTest, charactersTest, headerTest};
+ghost use Rattle.sff_header.specs.Header.{headerOf, Small};
+
+pub mod inner;
+
+use octets::ByteTest;
+use octets::first_not;
+use octets::get32;
+use sff_format::Answer;
+
+// The fields of the common header that are numbers of the file's own.
+pub struct Header {
+    pub index_offset: usize,
+    pub index_length: usize,
+    pub reads: usize,
+    pub length: usize,
+    pub key_length: usize,
+    pub flows: usize,
+}
+
+// Whether the header's two index fields say that there is an index.
+pub fn is_declared(offset: usize, length: usize) -> bool
+    ensures { λ r. ⌜ r ≡ declared offset length ⌝ }
+{
+    !((offset == 0) & (length == 0))
+}
+
+// The room that an index of a stated length occupies.
+pub fn index_size(length: usize) -> usize
+    ensures { λ r. ⌜ r ≡ indexSize length ⌝ }
+{
+    length
+}
+
+fn bad_index_length(length: usize) -> bool
+    ensures { λ r. ⌜ r ≡ badIndexLength length ⌝ }
+{
+    (length < 8) | !(length % 8 == 0)
+}
+
+// 8
+fn bad_index(offset: usize, length: usize) -> bool
+    ensures { λ r. ⌜ r ≡ badIndex offset length ⌝ }
+{
+    is_declared(offset, length) & ((offset == 0) | bad_index_length(length))
+}
+
+// 31+F+K: where flow and key characters end.
+fn characters_end(header: Header) -> usize
+    requires { ⌜ Small header ⌝ }
+    ensures { λ r. ⌜ (r ≡ 31 + header .flows + header .«key_length») × (r < 131103) ⌝ }
+{
+    31 + header.flows + header.key_length
+}
+
+// 2, 3, 4, 5
+fn fixed_test(s: &[u8], header: Header) -> Answer
+    requires { ⌜ 31 ≤ length (now s) ⌝ }
+    requires { ⌜ header ≡ headerOf (now s) ⌝ }
+    requires { ⌜ Small header ⌝ }
+    ensures { λ r. ⌜ r ≡ fixedTest (now (s .entry)) ⌝ }
+{
+    if get32(s, 0) != 0x2E736666 {
+        return Answer::Refused(2, 0);
+    }
+    if get32(s, 4) != 1 {
+        return Answer::Refused(3, 4);
+    }
+    if s[30] != 1 {
+        return Answer::Refused(4, 30);
+    }
+    if header.length != (characters_end(header) + 7) / 8 * 8 {
+        return Answer::Refused(5, 24);
+    }
+    Answer::Accepted
+}
+
+// 6, 7, 8
+fn characters_test(s: &[u8], header: Header) -> Answer
+    requires { ⌜ header ≡ headerOf (now s) ⌝ }
+    requires { ⌜ Small header ⌝ }
+    requires { ⌜ header .length ≡ up8 (31 + header .flows + header .«key_length») ⌝ }
+    requires { ⌜ header .length ≤ length (now s) ⌝ }
+    ensures { λ r. ⌜ r ≡ charactersTest (now (s .entry)) ⌝ }
+{
+    let padding = characters_end(header);
+    let end = header.length;
+    let other = first_not(ByteTest::FlowCharacter, s, 31, padding);
+    if other < padding {
+        return Answer::Refused(6, other);
+    }
+    let other = first_not(ByteTest::Zero, s, padding, end);
+    if other < end {
+        return Answer::Refused(7, other);
+    }
+    if bad_index(header.index_offset, header.index_length) {
+        return Answer::Refused(8, 8);
+    }
+    Answer::Accepted
+}
+
+pub fn header_test(s: &[u8]) -> Answer
+    ensures { λ r. ⌜ r ≡ headerTest (now (s .entry)) ⌝ }
+{
+    if s.len() < 31 {
+        return Answer::Refused(1, 0);
+    }
+    let header = inner::header_fields(s);
+    let fixed = fixed_test(s, header);
+    let Answer::Accepted = fixed else {
+        return fixed;
+    };
+    if s.len() < header.length {
+        return Answer::Refused(1, 0);
+    }
+    characters_test(s, header)
+}

@@ -1,0 +1,46 @@
+-- A text that a loop puts piece by piece: what is to come, put at the place that is reached, leaves what the whole leaves. Assumes nothing.
+use mathlib.Core.Path.{_≡_, refl, sym, ap, _∙_}
+use mathlib.Core.List.{List, [], _++_}
+use Prim.Native.Nat.{ℕ, _+_, _≤_}
+use native.Mathlib.Omega.{arith}
+use borrow.Author.Needs.{needs}
+use lib.ListN.{length, length-append}
+use Rattle.octets.specs.Parts.{putAt}
+use Rattle.octets.proofs.Lists.{put-put, put-nil}
+use Rattle.text.specs.Writing.{Room, Wrote}
+use Rattle.text.proofs.Writing.{wrote-length}
+
+-- of the text `whole`, to be put into l₀ at `at`, all but `rest` is put: the buffer is l and the place reached is p
+pub record Coming (at : ℕ) (whole l₀ : List ℕ) (p : ℕ) (rest l : List ℕ) : Type 0 where
+  pub is : putAt p rest l ≡ putAt at whole l₀
+  pub sum : p + length rest ≡ at + length whole
+  pub same : length l ≡ length l₀
+  pub room : at + length whole ≤ length l₀
+
+pub coming-start : {at : ℕ} {whole l : List ℕ} → Room at whole l → Coming at whole l at whole l
+coming-start r = record { is = refl; sum = refl; same = refl; room = r .fits }
+
+module _ {at : ℕ} {whole l₀ : List ℕ} {p : ℕ} {rest l : List ℕ} (k : Coming at whole l₀ p rest l) where
+  -- xs is the next piece
+  pub coming-room : (xs ys : List ℕ) → rest ≡ xs ++ ys → Room p xs l
+  coming-room xs ys e = let f = ap length e ∙ length-append xs ys in record { fits = omega (arith, f) }
+
+  pub coming-put : (xs ys : List ℕ) → rest ≡ xs ++ ys → {l′ : List ℕ} {q : ℕ} → Wrote p xs l l′ q → Coming at whole l₀ q ys l′
+  coming-put xs ys e {l′} {q} w =
+      let f = ap length e ∙ length-append xs ys in
+      let r = coming-room xs ys e in
+      let n = w .next in
+      record {
+        is = rw (n, w .is) (put-put p xs ys l (r .fits)) ∙ sym (ap (λ (z : List ℕ). putAt p z l) e) ∙ k .is;
+        sum = omega (arith, f, n);
+        same = wrote-length w (r .fits) ∙ k .same;
+        room = k .room;
+      }
+
+  pub coming-done : rest ≡ [] → Wrote at whole l₀ l p
+  coming-done e =
+      let f : length rest ≡ 0 = ap length e in
+      record { next = omega (arith, f); is = sym (put-nil p l) ∙ sym (ap (λ (z : List ℕ). putAt p z l) e) ∙ k .is }
+
+-- what `search` needs for a loop, beside its own laws: that nothing is left at its end, and `coming-room` and `coming-put` at its next piece, which `search` does not find by itself
+pub ruleset coming = (coming-start, coming-done, needs)

@@ -12,15 +12,22 @@ use Rattle.sff_format.specs.Answer.{_then_}
 use Rattle.sff_format.specs.Rules.{indexSize}
 use Rattle.sff_format.specs.HeaderTest.{indexLength, readCount, headerLength, keyLength, flows, charactersEnd, flowCharacters, headerTest}
 use Rattle.sff_format.specs.ReadTest.{readTest, readEnd}
-use Rattle.sff_format.specs.FileTest.{indexHere, passTest, endTest, boundaryTest}
+use Rattle.sff_format.specs.FileTest.{indexDue, indexHere, passTest, endTest, boundaryTest}
 use Rattle.sff_format.proofs.HeaderLaws.{header-fits, header-sized}
 use Rattle.sff_format.proofs.Boundaries.{boundary-end, boundary-read, boundary-index}
 use Rattle.sff_format.proofs.Indexes.{pass-fits}
 use Rattle.sff_format.proofs.Steps.{read-fits}
+use Rattle.sff_header.specs.declared.Header.{Header}
+use Rattle.sff_header.specs.Header.{headerOf}
+use Rattle.sff_header.proofs.Fields.{offset-of, index-length-of}
 
 -- the flow characters of an accepted header lie in the file
 pub characters-fit : (b : List ℕ) → headerTest b ≡ Accepted → 31 + flows b ≤ length b
 characters-fit b e = let f = header-fits b e in let s = header-sized b e in omega arith
+
+-- what the code asked of the header's fields, said of the file
+pub due-is : (h : Header) (b : List ℕ) → h ≡ headerOf b → (p : ℕ) (q r : Bool) → r ≡ indexDue (h .«index_offset») (h .«index_length») p q → (t : Bool) → r ≡ t → indexHere b p q ≡ t
+due-is h b e p q r d t f = rw (offset-of h b e, index-length-of h b e) (sym d ∙ f)
 
 -- n reads are left at the boundary p, and what it asks is what the header's end asks
 pub record Going (b : List ℕ) (n p : ℕ) (q : Bool) : Type 0 where
@@ -43,7 +50,7 @@ module _ {b : List ℕ} {n p : ℕ} {q : Bool} (g : Going b n p q) where
 
     pub stop-index : (a : Answer) (k z : ℕ) → a ≡ passTest b p → a ≡ Refused k z → Whole b a
     unfolding _then_
-    stop-index a k z e r = sym (g .is ∙ boundary-index b p q h n ∙ rw (← e, r) (sym r))
+    stop-index a k z e r = sym (g .is ∙ boundary-index b p q h n ∙ rw (← e, r))
 
   module _ (h : indexHere b p q ≡ false) where
     pub stop-end : (a : Answer) → n ≡ 0 → a ≡ endTest b p q → Whole b a
@@ -68,4 +75,4 @@ module _ {b : List ℕ} {n p : ℕ} {q : Bool} (g : Going b n p q) where
       stop-read a k z s e r =
           let m : n ≡ suc (n - 1) = omega arith in
           let t : readTest (flowCharacters b) b p ≡ a = rw f at (sym e) in
-          sym (g .is ∙ ap (λ (i : ℕ). boundaryTest b i p q) m ∙ boundary-read b p q h (n - 1) ∙ rw (t, r) (sym r))
+          sym (g .is ∙ ap (λ (i : ℕ). boundaryTest b i p q) m ∙ boundary-read b p q h (n - 1) ∙ rw (t, r))

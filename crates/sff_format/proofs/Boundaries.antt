@@ -65,15 +65,15 @@ module _ (b : List ℕ) (p : ℕ) (q : Bool) where
   parse-none = refl
 
   module _ (h : indexHere b p q ≡ false) where
-    no-test : indexTest b p q ≡ Accepted
+    pub no-test : indexTest b p q ≡ Accepted
     unfolding indexTest
     no-test = rw h
 
-    no-past : pastIndex b p q ≡ p
+    pub no-past : pastIndex b p q ≡ p
     unfolding pastIndex
     no-past = rw h
 
-    no-pass : nowPassed b p q ≡ q
+    pub no-pass : nowPassed b p q ≡ q
     no-pass = rw h (or-false q)
 
     pub boundary-end : boundaryTest b 0 p q ≡ endTest b p q
@@ -98,14 +98,14 @@ module _ (b : List ℕ) (p : ℕ) (q : Bool) where
       parse-read = rw (no-past, no-pass)
 
   module _ (h : indexHere b p q ≡ true) where
-    past : pastIndex b p q ≡ p + indexSize (indexLength b)
+    pub past : pastIndex b p q ≡ p + indexSize (indexLength b)
     unfolding pastIndex
     past = rw h
 
-    pass : nowPassed b p q ≡ true
+    pub pass : nowPassed b p q ≡ true
     pass = rw h (or-true q)
 
-    pass-test : indexTest b p q ≡ passTest b p
+    pub pass-test : indexTest b p q ≡ passTest b p
     unfolding indexTest
     pass-test = rw h
 

@@ -21,7 +21,7 @@ pub length-header : (f : File) → length (layoutHeader f) ≡ up8 (31 + length 
 unfolding layoutHeader headerFields filled
 length-header f = simp (length-append, length-replicate, length-fields) (omega arith)
 
--- all that the laws know of `indexSize`: no bytes for none, and room for the stated length
+-- all that the laws know of `indexSize`: no bytes for none, room for the stated length, and little more
 pub size-none : indexSize 0 ≡ 0
 unfolding indexSize
 size-none = refl
@@ -29,6 +29,10 @@ size-none = refl
 pub size-least : (n : ℕ) → n ≤ indexSize n
 unfolding indexSize
 size-least n = omega arith
+
+pub size-most : (n : ℕ) → indexSize n ≤ n + 7
+unfolding indexSize
+size-most n = omega arith
 
 -- an absent index has no bytes
 pub layout-empty : (x : Index) → x .bytes ≡ [] → layoutIndex x ≡ []

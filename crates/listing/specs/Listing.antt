@@ -1,0 +1,41 @@
+-- What the lister prints of a file. Assumes nothing: these are definitions.
+use Prim.Native.Nat.{ℕ, suc, _+_, _*_}
+use mathlib.Core.Bool.{cond}
+use mathlib.Core.List.{List, [], _∷_, _++_}
+use lib.ListN.{length}
+use lib.Dec.{ltb}
+use Rattle.sff_format.specs.declared.Answer.{Answer}
+use Rattle.sff_format.specs.declared.Answer.the-variants.{Accepted, Refused}
+use Rattle.sff_format.specs.Model.{Read, File}
+use Rattle.sff_format.specs.FileTest.{fileTest}
+use Rattle.sff_format.specs.Parse.{parse}
+use Rattle.sff_format.specs.Insert.{insertFirst, insertLast, insertOf}
+use Rattle.lines.specs.Lines.{headerLine, readLine, refusalLine}
+
+-- "A read's line is position, name, N, first, last, insert"
+abbrev pub lineOf : ℕ → Read → List ℕ
+lineOf position r = readLine position (r .name) (length (r .bases)) (insertFirst r) (insertLast r) (insertOf r)
+
+-- the lines of reads from a position on
+unfoldable pub linesFrom : ℕ → List Read → List ℕ
+linesFrom position [] = []
+linesFrom position (r ∷ rs) = lineOf position r ++ linesFrom (suc position) rs
+
+unfoldable pub fileLines : File → List ℕ
+fileLines f = headerLine (length (f .flow-characters)) (f .key) (length (f .reads)) ++ linesFrom 0 (f .reads)
+
+-- "A refusal is one line and nothing else"
+unfoldable pub listed : Answer → List ℕ → List ℕ
+listed Accepted b = fileLines (parse b)
+listed (Refused n p) b = refusalLine n p
+
+unfoldable pub listing : List ℕ → List ℕ
+listing b = listed (fileTest b) b
+
+-- room for the listing of any n bytes
+abbrev pub enough : ℕ → ℕ
+enough n = 7 * n + 64
+
+-- the listing where a buffer of that length has room for any of so many bytes, and else nothing
+unfoldable pub listingIn : ℕ → List ℕ → List ℕ
+listingIn room b = cond (ltb room (enough (length b))) [] (listing b)

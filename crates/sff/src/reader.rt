@@ -8,6 +8,7 @@ ghost use Rattle.sff_format.specs.FileTest.{indexTest, pastIndex, nowPassed};
 ghost use Rattle.sff_format.specs.Step.{fresh, freshPlace, step, stepTest, readOrNone};
 ghost use Rattle.sff_header.specs.Header.{headerOf, Small};
 ghost use Rattle.sff.specs.Forms.{stateOf, stepOf};
+use crate::file::end_test;
 use crate::file::index_due;
 use crate::file::pass_test;
 use sff_format::Answer;
@@ -16,6 +17,9 @@ use sff_header::Header;
 use sff_header::header_test;
 use sff_header::index_size;
 use sff_header::inner::header_fields;
+use sff_read::inner::read_end;
+use sff_read::inner::read_test;
+use sff_read::inner::read_view;
 
 // A byte place, the reads passed, and whether the index is passed. Any values may be put in.
 pub struct Reader {
@@ -28,6 +32,24 @@ pub struct Reader {
 pub enum Step {
     Found(ReadView, Reader),
     Stopped(u8, usize, Reader),
+}
+
+// Past an index: a read, or with none left 13, 12 or else 33.
+fn read_or_none(s: &[u8], header: Header, place: usize, reads: usize, passed: bool) -> Answer
+    requires { ⌜ headerTest (now s) ≡ Accepted ⌝ }
+    requires { ⌜ header ≡ headerOf (now s) ⌝ }
+    requires { ⌜ Small header ⌝ }
+    requires { ⌜ place ≤ length (now s) ⌝ }
+    ensures { λ r. ⌜ r ≡ readOrNone (now (s .entry)) place reads passed ⌝ }
+{
+    if reads < header.reads {
+        return read_test(s, place, header.flows);
+    }
+    let end = end_test(s, header, place, passed);
+    let Answer::Accepted = end else {
+        return end;
+    };
+    Answer::Refused(33, place)
 }
 
 // A boundary: its place, and whether the index is passed.
@@ -65,6 +87,44 @@ fn past_index(s: &[u8], header: Header, place: usize, passed: bool) -> Boundary
     Boundary { place, passed }
 }
 
+fn step_test(s: &[u8], reader: Reader) -> Answer
+    ensures { λ r. ⌜ r ≡ stepTest (now (s .entry)) (stateOf reader) ⌝ }
+{
+    let head = header_test(s);
+    let Answer::Accepted = head else {
+        return head;
+    };
+    let place = reader.place;
+    let passed = reader.passed_index;
+    if s.len() < place {
+        return Answer::Refused(1, place);
+    }
+    let header = header_fields(s);
+    let index = index_test(s, header, place, passed);
+    let Answer::Accepted = index else {
+        return index;
+    };
+    let here = past_index(s, header, place, passed);
+    read_or_none(s, header, here.place, reader.passed_reads, here.passed)
+}
+
+// The read that a step found, and the reader after it.
+fn found(s: &[u8], reader: Reader) -> Step
+    requires { ⌜ stepTest (now s) (stateOf reader) ≡ Accepted ⌝ }
+    ensures { λ r. ⌜ stepOf r ≡ step (now (s .entry)) (stateOf reader) ⌝ }
+{
+    let header = header_fields(s);
+    let flows = header.flows;
+    let here = past_index(s, header, reader.place, reader.passed_index);
+    let place = here.place;
+    let next = Reader {
+        place: read_end(s, place, flows),
+        passed_reads: reader.passed_reads + 1,
+        passed_index: here.passed,
+    };
+    Step::Found(read_view(s, place, flows), next)
+}
+
 impl Reader {
     // Stands at the end of an accepted header, else at 0.
     pub fn fresh(s: &[u8]) -> Reader
@@ -75,6 +135,16 @@ impl Reader {
             passed_reads: 0,
             passed_index: false,
         }
+    }
+
+    // For every state: the read and the next reader, or a refusal and this one.
+    pub fn step(self, s: &[u8]) -> Step
+        ensures { λ r. ⌜ stepOf r ≡ step (now (s .entry)) (stateOf self) ⌝ }
+    {
+        if let Answer::Refused(number, place) = step_test(s, self) {
+            return Step::Stopped(number, place, self);
+        }
+        found(s, self)
     }
 }
 

@@ -1,6 +1,6 @@
-// The header's tests.
+// The header's tests, and what its two index fields mean. What lengths an index may have and the room it takes is known to `bad_index_length` and `index_size` alone.
 ghost use mathlib.Core.Path.{_≡_};
-ghost use Prim.Native.Nat.{_+_, _≤_, _<_};
+ghost use Prim.Native.Nat.{_+_, _≤_};
 ghost use lib.ListN.{length};
 ghost use Rattle.octets.specs.Parts.{up8};
 ghost use Rattle.sff_format.specs.Rules.{declared, badIndexLength, badIndex, indexSize};
@@ -14,7 +14,7 @@ use octets::first_not;
 use octets::get32;
 use sff_format::Answer;
 
-// The fields of the common header that are numbers of the file's own.
+// The fields of the common header that differ from file to file.
 pub struct Header {
     pub index_offset: usize,
     pub index_length: usize,
@@ -38,13 +38,14 @@ pub fn index_size(length: usize) -> usize
     length
 }
 
+// Whether no index may have this length.
 fn bad_index_length(length: usize) -> bool
     ensures { λ r. ⌜ r ≡ badIndexLength length ⌝ }
 {
-    (length < 8) | !(length % 8 == 0)
+    (length < 8) | (length % 8 != 0)
 }
 
-// 8
+// The test 8.
 fn bad_index(offset: usize, length: usize) -> bool
     ensures { λ r. ⌜ r ≡ badIndex offset length ⌝ }
 {
@@ -54,12 +55,12 @@ fn bad_index(offset: usize, length: usize) -> bool
 // 31+F+K: where flow and key characters end.
 fn characters_end(header: Header) -> usize
     requires { ⌜ Small header ⌝ }
-    ensures { λ r. ⌜ (r ≡ 31 + header .flows + header .«key_length») × (r < 131103) ⌝ }
+    ensures { λ r. ⌜ r ≡ 31 + header .flows + header .«key_length» ⌝ }
 {
     31 + header.flows + header.key_length
 }
 
-// 2, 3, 4, 5
+// The tests 2, 3, 4 and 5.
 fn fixed_test(s: &[u8], header: Header) -> Answer
     requires { ⌜ 31 ≤ length (now s) ⌝ }
     requires { ⌜ header ≡ headerOf (now s) ⌝ }
@@ -81,7 +82,7 @@ fn fixed_test(s: &[u8], header: Header) -> Answer
     Answer::Accepted
 }
 
-// 6, 7, 8
+// The tests 6, 7 and 8.
 fn characters_test(s: &[u8], header: Header) -> Answer
     requires { ⌜ header ≡ headerOf (now s) ⌝ }
     requires { ⌜ Small header ⌝ }
@@ -105,6 +106,7 @@ fn characters_test(s: &[u8], header: Header) -> Answer
     Answer::Accepted
 }
 
+// All of the header's tests, in their order, on any bytes: 1, 2, 3, 4, 5, 1, 6, 7, 8.
 pub fn header_test(s: &[u8]) -> Answer
     ensures { λ r. ⌜ r ≡ headerTest (now (s .entry)) ⌝ }
 {

@@ -10,28 +10,28 @@ unfolding charactersTest _then_ when
 returns c = let g = c .before .before .before .before in
     let h = g .args .header in
     let b = g .args .s .now in
-    search (tests, length-of h b (g .pre .0), key-length-of h b (g .pre .0), flows-of h b (g .pre .0), ← (c .before .before .characters-end .ensures .0), ← (c .before .first-not .ensures .0))
+    search (tests, length-of h b (g .pre .0), key-length-of h b (g .pre .0), flows-of h b (g .pre .0), ← (c .before .before .characters-end .ensures), ← (c .before .first-not .ensures .0))
 
 returns-2 : tie.Need-returns-2
 unfolding charactersTest _then_ when
 returns-2 c = let g = c .before .before .before .before .before .before in
     let h = g .args .header in
     let b = g .args .s .now in
-    search (tests, length-of h b (g .pre .0), key-length-of h b (g .pre .0), flows-of h b (g .pre .0), ← (c .before .before .before .before .characters-end .ensures .0), ← (c .before .before .before .first-not .ensures .0), ← (c .before .first-not2 .ensures .0))
+    search (tests, length-of h b (g .pre .0), key-length-of h b (g .pre .0), flows-of h b (g .pre .0), ← (c .before .before .before .before .characters-end .ensures), ← (c .before .before .before .first-not .ensures .0), ← (c .before .first-not2 .ensures .0))
 
 returns-3 : tie.Need-returns-3
 unfolding charactersTest _then_ when
 returns-3 c = let g = c .before .before .before .before .before .before .before .before in
     let h = g .args .header in
     let b = g .args .s .now in
-    search (tests, length-of h b (g .pre .0), key-length-of h b (g .pre .0), flows-of h b (g .pre .0), ← (c .before .before .before .before .before .before .characters-end .ensures .0), ← (c .before .before .before .before .before .first-not .ensures .0), ← (c .before .before .before .first-not2 .ensures .0), offset-of h b (g .pre .0), index-length-of h b (g .pre .0), ← (c .before .bad-index .ensures), c .if3 .taken)
+    search (tests, length-of h b (g .pre .0), key-length-of h b (g .pre .0), flows-of h b (g .pre .0), ← (c .before .before .before .before .before .before .characters-end .ensures), ← (c .before .before .before .before .before .first-not .ensures .0), ← (c .before .before .before .first-not2 .ensures .0), offset-of h b (g .pre .0), index-length-of h b (g .pre .0), ← (c .before .bad-index .ensures), c .if3 .taken)
 
 returns-4 : tie.Need-returns-4
 unfolding charactersTest _then_ when
 returns-4 c = let g = c .before .before .before .before .before .before .before .before in
     let h = g .args .header in
     let b = g .args .s .now in
-    search (tests, length-of h b (g .pre .0), key-length-of h b (g .pre .0), flows-of h b (g .pre .0), ← (c .before .before .before .before .before .before .characters-end .ensures .0), ← (c .before .before .before .before .before .first-not .ensures .0), ← (c .before .before .before .first-not2 .ensures .0), offset-of h b (g .pre .0), index-length-of h b (g .pre .0), ← (c .before .bad-index .ensures), c .if3 .left)
+    search (tests, length-of h b (g .pre .0), key-length-of h b (g .pre .0), flows-of h b (g .pre .0), ← (c .before .before .before .before .before .before .characters-end .ensures), ← (c .before .before .before .before .before .first-not .ensures .0), ← (c .before .before .before .first-not2 .ensures .0), offset-of h b (g .pre .0), index-length-of h b (g .pre .0), ← (c .before .bad-index .ensures), c .if3 .left)
 
 pub characters-test-spec : {M : Type 1} → statement M
 characters-test-spec =

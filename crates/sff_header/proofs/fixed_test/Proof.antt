@@ -24,7 +24,7 @@ returns-4 c = let d = c .before .before .before .before .before in
     let g = d .before .before .before .before .before in
     let h = g .args .header in
     let b = g .args .s .now in
-    search (tests, number-one, ← (d .before .get322 .ensures .0), ← (d .before .before .before .get32 .ensures .0), length-of h b (g .pre .1 .0), key-length-of h b (g .pre .1 .0), flows-of h b (g .pre .1 .0), ← (c .before .before .characters-end .ensures .0))
+    search (tests, number-one, ← (d .before .get322 .ensures .0), ← (d .before .before .before .get32 .ensures .0), length-of h b (g .pre .1 .0), key-length-of h b (g .pre .1 .0), flows-of h b (g .pre .1 .0), ← (c .before .before .characters-end .ensures))
 
 returns-5 : tie.Need-returns-5
 unfolding fixedTest _then_ when
@@ -32,7 +32,7 @@ returns-5 c = let d = c .before .before .before .before .before in
     let g = d .before .before .before .before .before in
     let h = g .args .header in
     let b = g .args .s .now in
-    search (tests, number-one, ← (d .before .get322 .ensures .0), ← (d .before .before .before .get32 .ensures .0), length-of h b (g .pre .1 .0), key-length-of h b (g .pre .1 .0), flows-of h b (g .pre .1 .0), ← (c .before .before .characters-end .ensures .0))
+    search (tests, number-one, ← (d .before .get322 .ensures .0), ← (d .before .before .before .get32 .ensures .0), length-of h b (g .pre .1 .0), key-length-of h b (g .pre .1 .0), flows-of h b (g .pre .1 .0), ← (c .before .before .characters-end .ensures))
 
 pub fixed-test-spec : {M : Type 1} → statement M
 fixed-test-spec =

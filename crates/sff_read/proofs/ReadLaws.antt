@@ -1,0 +1,41 @@
+-- What the definitions of a read's tests tell the code. Assumes nothing.
+use Prim.Native.Nat.{ℕ, _+_, _*_, _≤_}
+use mathlib.Core.Path.{_≡_, sym, _∙_}
+use mathlib.Core.List.{List}
+use lib.Dec.{ltb}
+use lib.ListN.{length}
+use Rattle.octets.specs.Parts.{part, up8}
+use Rattle.octets.specs.Scans.{firstNot, isZero}
+use Rattle.octets.proofs.Lists.{length-part}
+use Rattle.sff_format.specs.declared.Answer.{Answer}
+use Rattle.sff_format.specs.declared.Answer.the-variants.{Accepted}
+use Rattle.sff_format.specs.Answer.{when, stopped, _then_}
+use Rattle.sff_format.specs.ReadTest.{nameTest, clipTest, basesTest, dataTest, readTest}
+use Rattle.sff_format.proofs.Answers.{first-ok, second-ok, under-ok}
+use Rattle.sff_read.specs.declared.inner.ReadFields.{ReadFields}
+use Rattle.sff_read.specs.Fields.{FieldsAt}
+
+-- the header section of a read whose name is accepted lies in the file
+pub name-fits : (b : List ℕ) (p s L : ℕ) {a : Answer} → a ≡ nameTest b p s L → a ≡ Accepted → p + s ≤ length b
+unfolding nameTest
+name-fits b p s L e t = under-ok _ _ _ _ (first-ok _ _ (second-ok _ _ (sym e ∙ t)))
+
+-- a read's tests over its fields as they were read
+pub read-by-fields : {b : List ℕ} {p : ℕ} {r : ReadFields} → FieldsAt b p r → (characters : List ℕ)
+    → readTest characters b p
+    ≡ (when (ltb (length b) (p + 16)) 1 p
+    then nameTest b p (r .section) (r .«name_length»)
+    then clipTest p (r .bases) (r .«quality_left» .0) (r .«quality_right» .0) (r .«adapter_left» .0) (r .«adapter_right» .0)
+    then dataTest characters b (p + r .section) (r .bases))
+unfolding readTest
+read-by-fields f characters =
+    rw (f .section-is, f .name-is, f .bases-are, f .quality-left-is, f .quality-right-is, f .adapter-left-is, f .adapter-right-is)
+
+-- a data section's tests over the flow characters as they stand in the file
+pub data-by-flows : (b : List ℕ) (F d n : ℕ) → 31 + F ≤ length b
+    → dataTest (part 31 F b) b d n
+    ≡ (when (ltb (length b) (d + up8 (2 * F + 3 * n))) 1 d
+    then basesTest (part 31 F b) b (d + 2 * F) n
+    then stopped 7 (firstNot isZero (d + (2 * F + 3 * n)) (d + up8 (2 * F + 3 * n)) b) (d + up8 (2 * F + 3 * n)))
+unfolding dataTest
+data-by-flows b F d n h = rw (length-part 31 F b h)

@@ -1,0 +1,11 @@
+use Rattle.sff_format.specs.Insert.{firstBase}
+use borrow.Author.Needs.{needs}
+use Rattle.sff_read.proofs.first_base.Statement.{statement}
+use Rattle.sff_read.proofs.first_base.Tie as tie
+
+returns : tie.Need-returns
+unfolding firstBase
+returns c = cc
+
+pub first-base-spec : {M : Type 1} → statement M
+first-base-spec = tie.close (tie.spec (λ c κs. search needs) (λ c κs. search needs) returns)

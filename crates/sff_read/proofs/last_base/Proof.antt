@@ -1,0 +1,12 @@
+use Rattle.sff_format.specs.Insert.{lastBase}
+use borrow.Author.Needs.{needs}
+use Rattle.sff_read.proofs.last_base.Statement.{statement}
+use Rattle.sff_read.proofs.last_base.Tie as tie
+
+returns : tie.Need-returns
+unfolding lastBase
+returns c = cc
+
+pub last-base-spec : {M : Type 1} → statement M
+last-base-spec =
+    tie.close (tie.spec (λ c κs. search needs) (λ c κs. search needs) (λ c κs. search needs) returns)

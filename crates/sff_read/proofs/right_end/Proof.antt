@@ -1,0 +1,15 @@
+use Rattle.sff_format.specs.Insert.{rightEnd}
+use Rattle.sff_read.proofs.Tests.{tests}
+use Rattle.sff_read.proofs.right_end.Statement.{statement}
+use Rattle.sff_read.proofs.right_end.Tie as tie
+
+returns : tie.Need-returns
+unfolding rightEnd
+returns c = search tests
+
+returns-2 : tie.Need-returns-2
+unfolding rightEnd
+returns-2 c = search tests
+
+pub right-end-spec : {M : Type 1} → statement M
+right-end-spec = tie.close (tie.spec returns returns-2)

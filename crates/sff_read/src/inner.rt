@@ -1,0 +1,219 @@
+// For the crates above, which have tested the header and know that the place lies in the file: hence each `requires`.
+ghost use mathlib.Core.Path.{_≡_};
+ghost use Prim.Native.Nat.{_+_, _*_, _≤_, _<_};
+ghost use lib.ListN.{length};
+ghost use Rattle.octets.specs.Parts.{part, up8};
+ghost use Rattle.sff_format.specs.Rules.{leftLimit, rightLimit};
+ghost use Rattle.sff_format.specs.ReadTest.{nameTest, clipTest, dataTest, readTest, readEnd};
+ghost use Rattle.sff_format.specs.Step.{viewAt};
+ghost use Rattle.sff_read.specs.Fields.{FieldsAt};
+use crate::BasePosition;
+use octets::ByteTest;
+use octets::first_not;
+use octets::get16;
+use octets::get32;
+use sff_format::Answer;
+use sff_format::ReadView;
+use sff_format::Stretch;
+
+mod walk;
+
+use crate::inner::walk::bases_test;
+
+// The fields of a read's header section.
+struct ReadFields {
+    section: usize,
+    name_length: usize,
+    bases: usize,
+    quality_left: BasePosition,
+    quality_right: BasePosition,
+    adapter_left: BasePosition,
+    adapter_right: BasePosition,
+}
+
+fn read_fields(s: &[u8], p: usize) -> ReadFields
+    requires { ⌜ p + 16 ≤ length (now s) ⌝ }
+    ensures { λ r. ⌜ FieldsAt (now (s .entry)) p r ⌝ }
+{
+    ReadFields {
+        section: get16(s, p),
+        name_length: get16(s, p + 2),
+        bases: get32(s, p + 4),
+        quality_left: BasePosition(get16(s, p + 8)),
+        quality_right: BasePosition(get16(s, p + 10)),
+        adapter_left: BasePosition(get16(s, p + 12)),
+        adapter_right: BasePosition(get16(s, p + 14)),
+    }
+}
+
+// The next multiple of 8, or n itself.
+fn padded_size(n: usize) -> usize
+    requires { ⌜ n + 7 < 18446744073709551616 ⌝ }
+    ensures { λ r. ⌜ r ≡ up8 n ⌝ }
+{
+    (n + 7) / 8 * 8
+}
+
+// 5, 1, 6, 7
+fn name_test(s: &[u8], p: usize, section: usize, name_length: usize) -> Answer
+    requires { ⌜ (p + 16 ≤ length (now s)) × (section < 65536) × («name_length» < 65536) ⌝ }
+    ensures { λ r. ⌜ r ≡ nameTest (now (s .entry)) p section «name_length» ⌝ }
+{
+    let name_end = p + 16 + name_length;
+    let end = p + section;
+    if section != padded_size(16 + name_length) {
+        return Answer::Refused(5, p);
+    }
+    if s.len() < end {
+        return Answer::Refused(1, p);
+    }
+    let name = first_not(ByteTest::NameByte, s, p + 16, name_end);
+    if name < name_end {
+        return Answer::Refused(6, name);
+    }
+    let padding = first_not(ByteTest::Zero, s, name_end, end);
+    if padding < end {
+        return Answer::Refused(7, padding);
+    }
+    Answer::Accepted
+}
+
+// What a left and a right clip of a read may hold at most.
+fn left_limit(bases: usize) -> BasePosition
+    requires { ⌜ bases < 4294967296 ⌝ }
+    ensures { λ r. ⌜ r .0 ≡ leftLimit bases ⌝ }
+{
+    BasePosition(bases)
+}
+
+fn right_limit(bases: usize) -> BasePosition
+    requires { ⌜ bases < 4294967296 ⌝ }
+    ensures { λ r. ⌜ r .0 ≡ rightLimit bases ⌝ }
+{
+    BasePosition(bases)
+}
+
+// 9
+fn clip_test(
+    p: usize,
+    bases: usize,
+    quality_left: BasePosition,
+    quality_right: BasePosition,
+    adapter_left: BasePosition,
+    adapter_right: BasePosition,
+) -> Answer
+    requires { ⌜ (p + 16 < 18446744073709551616) × (bases < 4294967296) ⌝ }
+    ensures { λ r. ⌜ r ≡ clipTest p bases («quality_left» .0) («quality_right» .0) («adapter_left» .0) («adapter_right» .0) ⌝ }
+{
+    let left = left_limit(bases);
+    let right = right_limit(bases);
+    if quality_left.0 > left.0 {
+        return Answer::Refused(9, p + 8);
+    }
+    if quality_right.0 > right.0 {
+        return Answer::Refused(9, p + 10);
+    }
+    if adapter_left.0 > left.0 {
+        return Answer::Refused(9, p + 12);
+    }
+    if adapter_right.0 > right.0 {
+        return Answer::Refused(9, p + 14);
+    }
+    Answer::Accepted
+}
+
+// 1, 10, 11, 7
+fn data_test(s: &[u8], d: usize, bases: usize, flows: usize) -> Answer
+    requires { ⌜ (d ≤ length (now s)) × (bases < 4294967296) × (flows < 65536) × (31 + flows ≤ length (now s)) ⌝ }
+    ensures { λ r. ⌜ r ≡ dataTest (part 31 flows (now (s .entry))) (now (s .entry)) d bases ⌝ }
+{
+    let used = 2 * flows + 3 * bases;
+    let end = d + padded_size(used);
+    if s.len() < end {
+        return Answer::Refused(1, d);
+    }
+    let called = bases_test(s, d + 2 * flows, bases, flows);
+    let Answer::Accepted = called else {
+        return called;
+    };
+    let padding = first_not(ByteTest::Zero, s, d + used, end);
+    if padding < end {
+        return Answer::Refused(7, padding);
+    }
+    Answer::Accepted
+}
+
+// The tests of the read at p, in document 01's order: 1, 5, 1, 6, 7, 9, 1, 10, 11, 7.
+pub fn read_test(s: &[u8], p: usize, flows: usize) -> Answer
+    requires { ⌜ (p ≤ length (now s)) × (flows < 65536) × (31 + flows ≤ length (now s)) ⌝ }
+    ensures { λ r. ⌜ r ≡ readTest (part 31 flows (now (s .entry))) (now (s .entry)) p ⌝ }
+{
+    if s.len() < p + 16 {
+        return Answer::Refused(1, p);
+    }
+    let fields = read_fields(s, p);
+    let section = fields.section;
+    let bases = fields.bases;
+    let named = name_test(s, p, section, fields.name_length);
+    let Answer::Accepted = named else {
+        return named;
+    };
+    let clipped = clip_test(
+        p,
+        bases,
+        fields.quality_left,
+        fields.quality_right,
+        fields.adapter_left,
+        fields.adapter_right,
+    );
+    let Answer::Accepted = clipped else {
+        return clipped;
+    };
+    data_test(s, p + section, bases, flows)
+}
+
+// Where the read at p ends, as its fields say.
+pub fn read_end(s: &[u8], p: usize, flows: usize) -> usize
+    requires { ⌜ (p + 16 ≤ length (now s)) × (flows < 65536) ⌝ }
+    ensures { λ r. ⌜ r ≡ readEnd flows (now (s .entry)) p ⌝ }
+{
+    p + get16(s, p) + padded_size(2 * flows + 3 * get32(s, p + 4))
+}
+
+// What the read at p says, as far as its fields do.
+pub fn read_view(s: &[u8], p: usize, flows: usize) -> ReadView
+    requires { ⌜ (p + 16 ≤ length (now s)) × (flows < 65536) ⌝ }
+    ensures { λ r. ⌜ r ≡ viewAt flows (now (s .entry)) p ⌝ }
+{
+    let fields = read_fields(s, p);
+    let n = fields.bases;
+    let d = p + fields.section;
+    let increments = d + 2 * flows;
+    ReadView {
+        place: p,
+        name: Stretch {
+            at: p + 16,
+            size: fields.name_length,
+        },
+        values: Stretch {
+            at: d,
+            size: 2 * flows,
+        },
+        increments: Stretch {
+            at: increments,
+            size: n,
+        },
+        bases: Stretch {
+            at: increments + n,
+            size: n,
+        },
+        qualities: Stretch {
+            at: increments + n + n,
+            size: n,
+        },
+        quality_left: fields.quality_left.0,
+        quality_right: fields.quality_right.0,
+        adapter_left: fields.adapter_left.0,
+        adapter_right: fields.adapter_right.0,
+    }
+}

@@ -29,6 +29,22 @@ characters-fit b e = let f = header-fits b e in let s = header-sized b e in omeg
 pub due-is : (h : Header) (b : List ℕ) → h ≡ headerOf b → (p : ℕ) (q r : Bool) → r ≡ indexDue (h .«index_offset») (h .«index_length») p q → (t : Bool) → r ≡ t → indexHere b p q ≡ t
 due-is h b e p q r d t f = rw (offset-of h b e, index-length-of h b e) (sym d ∙ f)
 
+-- an index that is due is not passed yet
+pub due-open : (b : List ℕ) (p : ℕ) (q : Bool) → indexHere b p q ≡ true → q ≡ false
+unfolding indexDue
+due-open b p true h = let z : _≡_ {A = ℕ} 0 1 = cc in absurd (omega arith)
+due-open b p false h = refl
+
+-- how many turns are left at most: one for each read, and one for an index
+abbrev pub turns : ℕ → Bool → ℕ
+turns n q = 2 * n + cond q 0 1
+
+pub turns-index : (n : ℕ) (q : Bool) → q ≡ false → turns n true < turns n q
+turns-index n q e = rw e (omega arith)
+
+pub turns-read : (n : ℕ) (q : Bool) → 0 < n → turns (n - 1) q < turns n q
+turns-read n q h = omega arith
+
 -- n reads are left at the boundary p, and what it asks is what the header's end asks
 pub record Going (b : List ℕ) (n p : ℕ) (q : Bool) : Type 0 where
   pub head : headerTest b ≡ Accepted

@@ -1,4 +1,66 @@
 // The whole-file test, and a reader that goes on by one read at a time. Both only read the lent file.
-pub mod file;
+ghost use mathlib.Core.Path.{_≡_};
+ghost use mathlib.Core.Bool.{false};
+ghost use Rattle.sff_format.specs.declared.Answer.the-variants.{Accepted};
+ghost use Rattle.sff_format.specs.HeaderTest.{headerTest, readCount, headerLength};
+ghost use Rattle.sff_format.specs.FileTest.{boundaryTest, fileTest};
+ghost use Rattle.sff_header.specs.Header.{headerOf, Small};
+
+pub mod inner;
 pub mod reader;
 pub mod view;
+
+use crate::inner::end_test;
+use crate::inner::index_due;
+use crate::inner::pass_test;
+use sff_format::Answer;
+use sff_header::Header;
+use sff_header::header_test;
+use sff_header::index_size;
+use sff_header::inner::header_fields;
+use sff_read::inner::read_end;
+use sff_read::inner::read_test;
+
+// What the boundaries ask, from the header's end on: one turn passes an index, or a read, or is the end.
+fn sections_test(s: &[u8], header: Header) -> Answer
+    requires { ⌜ headerTest (now s) ≡ Accepted ⌝ }
+    requires { ⌜ header ≡ headerOf (now s) ⌝ }
+    requires { ⌜ Small header ⌝ }
+    ensures { λ r. ⌜ r ≡ boundaryTest (now (s .entry)) (readCount (now (s .entry))) (headerLength (now (s .entry))) false ⌝ }
+{
+    let flows = header.flows;
+    let mut left = header.reads;
+    let mut place = header.length;
+    let mut passed = false;
+    loop {
+        if index_due(header, place, passed) {
+            let index = pass_test(s, header, place);
+            let Answer::Accepted = index else {
+                break index;
+            };
+            place += index_size(header.index_length);
+            passed = true;
+        } else {
+            if left == 0 {
+                break end_test(s, header, place, passed);
+            }
+            let read = read_test(s, place, flows);
+            let Answer::Accepted = read else {
+                break read;
+            };
+            place = read_end(s, place, flows);
+            left -= 1;
+        }
+    }
+}
+
+// Any bytes of any length: 0 exactly if they are a file that keeps the rules.
+pub fn file_test(s: &[u8]) -> Answer
+    ensures { λ r. ⌜ r ≡ fileTest (now (s .entry)) ⌝ }
+{
+    let head = header_test(s);
+    let Answer::Accepted = head else {
+        return head;
+    };
+    sections_test(s, header_fields(s))
+}

@@ -4,18 +4,18 @@ ghost use Prim.Native.Nat.{_+_, _≤_, _<_};
 ghost use lib.ListN.{length};
 ghost use Rattle.sff_format.specs.declared.Answer.the-variants.{Accepted};
 ghost use Rattle.sff_format.specs.HeaderTest.{headerTest};
-ghost use Rattle.sff_format.specs.FileTest.{indexTest, pastIndex, nowPassed};
+ghost use Rattle.sff_format.specs.FileTest.{indexTest};
 ghost use Rattle.sff_format.specs.Step.{fresh, freshPlace, step, stepTest, readOrNone};
 ghost use Rattle.sff_header.specs.Header.{headerOf, Small};
 ghost use Rattle.sff.specs.Forms.{stateOf, stepOf};
-use crate::file::end_test;
-use crate::file::index_due;
-use crate::file::pass_test;
+use crate::inner::end_test;
+use crate::inner::index_due;
+use crate::inner::pass_test;
+use crate::inner::past_index;
 use sff_format::Answer;
 use sff_format::ReadView;
 use sff_header::Header;
 use sff_header::header_test;
-use sff_header::index_size;
 use sff_header::inner::header_fields;
 use sff_read::inner::read_end;
 use sff_read::inner::read_test;
@@ -52,12 +52,6 @@ fn read_or_none(s: &[u8], header: Header, place: usize, reads: usize, passed: bo
     Answer::Refused(33, place)
 }
 
-// A boundary: its place, and whether the index is passed.
-struct Boundary {
-    place: usize,
-    passed: bool,
-}
-
 // 1, of an index that is due.
 fn index_test(s: &[u8], header: Header, place: usize, passed: bool) -> Answer
     requires { ⌜ header ≡ headerOf (now s) ⌝ }
@@ -69,22 +63,6 @@ fn index_test(s: &[u8], header: Header, place: usize, passed: bool) -> Answer
         return pass_test(s, header, place);
     }
     Answer::Accepted
-}
-
-// The boundary past an index that is due.
-fn past_index(s: &[u8], header: Header, place: usize, passed: bool) -> Boundary
-    requires { ⌜ header ≡ headerOf (now s) ⌝ }
-    requires { ⌜ Small header ⌝ }
-    requires { ⌜ place ≤ length (now s) ⌝ }
-    ensures { λ r. ⌜ (r .place ≡ pastIndex (now (s .entry)) place passed) × (r .passed ≡ nowPassed (now (s .entry)) place passed) ⌝ }
-{
-    if index_due(header, place, passed) {
-        return Boundary {
-            place: place + index_size(header.index_length),
-            passed: true,
-        };
-    }
-    Boundary { place, passed }
 }
 
 fn step_test(s: &[u8], reader: Reader) -> Answer

@@ -13,3 +13,5 @@ pub mod Loops
 pub mod Split
 pub mod Places
 pub mod Steps
+pub mod Views
+pub mod Inserted

@@ -5,7 +5,7 @@ use mathlib.Core.List.{List}
 use borrow.Author.Tests.{lt-ltb, le-ltb, eq-eqb, ne-eqb}
 use Rattle.octets.specs.Parts.{up8}
 use Rattle.sff_format.specs.declared.Answer.the-variants.{Accepted}
-use Rattle.sff_format.specs.HeaderTest.{indexOffset, indexLength, headerLength, keyLength, flows, fixedTest}
+use Rattle.sff_format.specs.HeaderTest.{indexOffset, indexLength, readCount, headerLength, keyLength, flows, fixedTest}
 use Rattle.sff_format.proofs.Answers.{second-ok, same-ok}
 use Rattle.sff_header.specs.declared.Header.{Header}
 use Rattle.sff_header.specs.Header.{headerOf}
@@ -20,6 +20,10 @@ module _ (h : Header) (b : List ℕ) (e : h ≡ headerOf b) where
   pub index-length-of : indexLength b ≡ h .«index_length»
   unfolding headerOf
   index-length-of = rw e
+
+  pub reads-of : readCount b ≡ h .reads
+  unfolding headerOf
+  reads-of = rw e
 
   pub length-of : headerLength b ≡ h .length
   unfolding headerOf

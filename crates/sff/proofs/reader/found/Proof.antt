@@ -1,43 +1,27 @@
+use borrow.Author.Needs.{needs}
+use mathlib.Core.Path.{sym}
+use native.Mathlib.Omega.{arith}
+use Rattle.sff_format.proofs.HeaderLaws.{fits-31}
+use Rattle.sff_format.proofs.ReadLaid.{fits-16}
+use Rattle.sff_header.proofs.Fields.{flows-of, reads-of}
+use Rattle.sff.proofs.Reading.{header-accepted, place-inside, one-left, read-accepted, found-is}
 use Rattle.sff.proofs.reader.found.Statement.{statement}
 use Rattle.sff.proofs.reader.found.Tie as tie
-use Rattle.sff.proofs.reader.found.Reads as reads
-use Rattle.sff.proofs.reader.found.Lts as lts
-use Rattle.sff.proofs.reader.past_index.Reads as past-index-reads
-use Rattle.sff_header.proofs.inner.header_fields.Reads as header-fields-reads
-use Rattle.sff_read.proofs.inner.read_end.Reads as read-end-reads
-use Rattle.sff_read.proofs.inner.read_view.Reads as read-view-reads
-
--- src/reader.rt:116:9
-header-fields-requires : tie.Need-header-fields-requires
-header-fields-requires c κs = ?
-
--- src/reader.rt:118:9
-past-index-requires : tie.Need-past-index-requires
-past-index-requires c κs = ?
-
--- src/reader.rt:121:16
-read-end-requires : tie.Need-read-end-requires
-read-end-requires c κs = ?
-
--- src/reader.rt:122:23
-add-t9 : tie.Need-add-t9
-add-t9 c = ?
-
--- src/reader.rt:125:17
-read-view-requires : tie.Need-read-view-requires
-read-view-requires c κs = ?
-
--- src/reader.rt:112:1
-returns : tie.Need-returns
-returns c = ?
 
 pub found-spec : {M : Type 1} → statement M
 found-spec =
     tie.close
     (tie.spec
-    header-fields-requires
-    past-index-requires
-    read-end-requires
-    add-t9
-    read-view-requires
-    returns)
+    (λ c κs. fits-31 _ (header-accepted _ _ (c .before .pre)))
+    (λ c κs. (c .header-fields .ensures .0, (c .header-fields .ensures .1, place-inside _ _ (c .before .before .pre))))
+    (λ c κs. (rw (c .past-index .ensures .0) (fits-16 _ _ _ (read-accepted _ _ (c .before .before .before .pre))), search needs))
+    (λ c.
+    let h = c .before .before .before .header-fields in
+    let d = c .before .before .before .before .before in
+    omega (arith, one-left _ _ (d .pre), reads-of (h .result) _ (h .ensures .0)))
+    (λ c κs. (rw (c .before .before .past-index .ensures .0) (fits-16 _ _ _ (read-accepted _ _ (c .before .before .before .before .before .pre))), search needs))
+    (λ c.
+    let h = c .before .before .before .before .header-fields in
+    let k = c .before .before .before .past-index in
+    let d = c .before .before .before .before .before .before in
+    found-is _ _ (d .pre) _ _ _ _ _ (sym (flows-of (h .result) _ (h .ensures .0))) (k .ensures .0) (k .ensures .1) (c .before .before .read-end .ensures) (c .read-view .ensures)))

@@ -1,46 +1,38 @@
+use Rattle.sff_format.specs.Answer.{_then_}
+use Rattle.sff_format.specs.Step.{readOrNone}
+use Rattle.sff_format.proofs.Answers.{tests}
+use Rattle.sff_header.proofs.Fields.{reads-of, flows-of}
+use Rattle.sff.proofs.Sections.{characters-fit}
 use borrow.Author.Needs.{needs}
 use Rattle.sff.proofs.reader.read_or_none.Statement.{statement}
 use Rattle.sff.proofs.reader.read_or_none.Tie as tie
-use Rattle.sff.proofs.reader.read_or_none.Reads as reads
-use Rattle.sff.proofs.reader.read_or_none.Lts as lts
-use Rattle.sff.proofs.file.end_test.Reads as end-test-reads
-use Rattle.sff_read.proofs.inner.read_test.Reads as read-test-reads
 
--- src/reader.rt:46:9
-read-test-requires : tie.Need-read-test-requires
-read-test-requires c κs = ?
-
--- src/reader.rt:46:9
 returns : tie.Need-returns
-returns c = ?
+unfolding readOrNone
+returns c = let d = c .before .before .before .before in
+    let e = d .pre .1 .0 in
+    search (tests, reads-of (d .args .header) _ e, flows-of (d .args .header) _ e, ← (c .read-test .ensures))
 
--- src/reader.rt:48:9
-end-test-requires : tie.Need-end-test-requires
-end-test-requires c κs = search needs
-
-enum-told : tie.Need-enum-told
-enum-told c = search needs
-
--- src/reader.rt:50:9
-enum-told-2 : tie.Need-enum-told-2
-enum-told-2 c = search needs
-
--- src/reader.rt:50:9
 returns-2 : tie.Need-returns-2
-returns-2 c = ?
+unfolding readOrNone _then_
+returns-2 c = let d = c .before .before .before .before .before .before in
+    search (tests, reads-of (d .args .header) _ (d .pre .1 .0), ← (c .before .before .end-test .ensures), c .enum-told2 .given .1)
 
--- src/reader.rt:38:1
 returns-3 : tie.Need-returns-3
-returns-3 c = ?
+unfolding readOrNone _then_
+returns-3 c = let d = c .before .before .before .before .before .before in
+    search (tests, reads-of (d .args .header) _ (d .pre .1 .0), ← (c .before .before .end-test .ensures), c .enum-told .given .1)
 
 pub read-or-none-spec : {M : Type 1} → statement M
 read-or-none-spec =
     tie.close
     (tie.spec
-    read-test-requires
+    (λ c κs.
+    let d = c .before .before .before in
+    (search needs, search needs, rw (← (flows-of (d .args .header) _ (d .pre .1 .0))) (characters-fit _ (d .pre .0))))
     returns
-    end-test-requires
-    enum-told
-    enum-told-2
+    (λ c κs. search needs)
+    (λ c. search needs)
+    (λ c. search needs)
     returns-2
     returns-3)

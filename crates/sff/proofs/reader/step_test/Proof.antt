@@ -1,78 +1,55 @@
+use mathlib.Core.Path.{sym, _∙_}
+use Rattle.sff_format.specs.Answer.{_then_, when}
+use Rattle.sff_format.specs.Step.{stepTest}
+use Rattle.sff_format.proofs.Answers.{tests}
+use Rattle.sff_format.proofs.HeaderLaws.{fits-31}
+use Rattle.sff_format.proofs.Steps.{past-fits}
 use borrow.Author.Needs.{needs}
 use Rattle.sff.proofs.reader.step_test.Statement.{statement}
 use Rattle.sff.proofs.reader.step_test.Tie as tie
-use Rattle.sff.proofs.reader.step_test.Reads as reads
-use Rattle.sff.proofs.reader.step_test.Lts as lts
-use Rattle.sff.proofs.reader.index_test.Reads as index-test-reads
-use Rattle.sff.proofs.reader.past_index.Reads as past-index-reads
-use Rattle.sff.proofs.reader.read_or_none.Reads as read-or-none-reads
-use Rattle.sff_header.proofs.header_test.Reads as header-test-reads
-use Rattle.sff_header.proofs.inner.header_fields.Reads as header-fields-reads
 
--- src/reader.rt:93:9
-header-test-requires : tie.Need-header-test-requires
-header-test-requires c κs = search needs
-
-enum-told : tie.Need-enum-told
-enum-told c = search needs
-
--- src/reader.rt:95:9
-enum-told-2 : tie.Need-enum-told-2
-enum-told-2 c = search needs
-
--- src/reader.rt:95:9
 returns : tie.Need-returns
-returns c = ?
+unfolding stepTest _then_
+returns c = search (← (c .before .before .header-test .ensures), c .enum-told2 .given .1)
 
--- src/reader.rt:100:9
 returns-2 : tie.Need-returns-2
-returns-2 c = ?
+unfolding stepTest _then_ when
+returns-2 c = search (tests, ← (c .before .before .before .header-test .ensures), c .before .enum-told .given .1)
 
--- src/reader.rt:102:9
-header-fields-requires : tie.Need-header-fields-requires
-header-fields-requires c κs = ?
-
--- src/reader.rt:103:9
-index-test-requires : tie.Need-index-test-requires
-index-test-requires c κs = search needs
-
-enum-told-3 : tie.Need-enum-told-3
-enum-told-3 c = search needs
-
--- src/reader.rt:105:9
-enum-told-4 : tie.Need-enum-told-4
-enum-told-4 c = search needs
-
--- src/reader.rt:105:9
 returns-3 : tie.Need-returns-3
-returns-3 c = ?
+unfolding stepTest _then_ when
+returns-3 c = search (tests, ← (c .before .before .before .before .before .before .before .header-test .ensures), c .before .before .before .before .before .enum-told .given .1, ← (c .before .before .index-test .ensures), c .enum-told4 .given .1)
 
--- src/reader.rt:107:9
-past-index-requires : tie.Need-past-index-requires
-past-index-requires c κs = search needs
+)
 
--- src/reader.rt:108:5
-read-or-none-requires : tie.Need-read-or-none-requires
-read-or-none-requires c κs = ?
-
--- src/reader.rt:90:1
 returns-4 : tie.Need-returns-4
-returns-4 c = ?
+unfolding stepTest _then_ when
+returns-4 c = let h = c .before .before .before .before .before in
+    search (tests, ← (h .before .before .before .before .header-test .ensures), h .before .before .enum-told .given .1, ← (c .before .before .before .before .index-test .ensures), c .before .before .enum-told3 .given .1, ← (c .before .past-index .ensures .0), ← (c .before .past-index .ensures .1), ← (c .read-or-none .ensures))
 
 pub step-test-spec : {M : Type 1} → statement M
 step-test-spec =
     tie.close
     (tie.spec
-    header-test-requires
-    enum-told
-    enum-told-2
+    (λ c κs. search needs)
+    (λ c. search needs)
+    (λ c. search needs)
     returns
     returns-2
-    header-fields-requires
-    index-test-requires
-    enum-told-3
-    enum-told-4
+    (λ c κs. fits-31 _ (sym (c .before .before .before .header-test .ensures) ∙ c .before .enum-told .given .1))
+    (λ c κs. search needs)
+    (λ c. search needs)
+    (λ c. search needs)
     returns-3
-    past-index-requires
-    read-or-none-requires
+    (λ c κs. search needs)
+    (λ c κs.
+ let h = c .before .before .before .before in (
+  sym (h .before .before .before .before .header-test .ensures) ∙ h .before .before .enum-told .given .1,
+  (
+    h .header-fields .ensures .0,
+    (
+      h .header-fields .ensures .1,
+      rw (c .past-index .ensures .0) (past-fits _ _ _ (h .before .if1 .left) (sym (c .before .before .before .index-test .ensures) ∙ c .before .enum-told3 .given .1)),
+    ),
+  ),)
     returns-4)

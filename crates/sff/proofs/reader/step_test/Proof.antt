@@ -20,8 +20,6 @@ returns-3 : tie.Need-returns-3
 unfolding stepTest _then_ when
 returns-3 c = search (tests, ← (c .before .before .before .before .before .before .before .header-test .ensures), c .before .before .before .before .before .enum-told .given .1, ← (c .before .before .index-test .ensures), c .enum-told4 .given .1)
 
-)
-
 returns-4 : tie.Need-returns-4
 unfolding stepTest _then_ when
 returns-4 c = let h = c .before .before .before .before .before in
@@ -43,13 +41,7 @@ step-test-spec =
     returns-3
     (λ c κs. search needs)
     (λ c κs.
- let h = c .before .before .before .before in (
-  sym (h .before .before .before .before .header-test .ensures) ∙ h .before .before .enum-told .given .1,
-  (
-    h .header-fields .ensures .0,
-    (
-      h .header-fields .ensures .1,
-      rw (c .past-index .ensures .0) (past-fits _ _ _ (h .before .if1 .left) (sym (c .before .before .before .index-test .ensures) ∙ c .before .enum-told3 .given .1)),
-    ),
-  ),)
+    let h = c .before .before .before .before in
+    let i = past-fits _ _ _ (h .before .if1 .left) (sym (c .before .before .before .index-test .ensures) ∙ c .before .enum-told3 .given .1) in
+    (sym (h .before .before .before .before .header-test .ensures) ∙ h .before .before .enum-told .given .1, (h .header-fields .ensures .0, (h .header-fields .ensures .1, rw (c .past-index .ensures .0) i))))
     returns-4)

@@ -1,8 +1,8 @@
 use Rattle.lines.specs.Lines.{labelledNumber}
 use borrow.Author.Needs.{needs}
 use Rattle.text.proofs.Writing.{two}
-use Rattle.lines.proofs.put_labelled_number.Statement.{statement}
-use Rattle.lines.proofs.put_labelled_number.Tie as tie
+use Rattle.lines.proofs.inner.put_labelled_number.Statement.{statement}
+use Rattle.lines.proofs.inner.put_labelled_number.Tie as tie
 
 pub put-labelled-number-spec : {M : Type 1} → statement M
 unfolding labelledNumber

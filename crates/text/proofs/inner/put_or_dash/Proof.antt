@@ -1,7 +1,7 @@
 use borrow.Author.Needs.{needs}
 use Rattle.text.proofs.Writing.{dashes}
-use Rattle.text.proofs.put_or_dash.Statement.{statement}
-use Rattle.text.proofs.put_or_dash.Tie as tie
+use Rattle.text.proofs.inner.put_or_dash.Statement.{statement}
+use Rattle.text.proofs.inner.put_or_dash.Tie as tie
 
 pub put-or-dash-spec : {M : Type 1} → statement M
 put-or-dash-spec =

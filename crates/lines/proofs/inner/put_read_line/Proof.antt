@@ -1,8 +1,8 @@
 use Rattle.lines.specs.Lines.{readLine}
 use borrow.Author.Needs.{needs}
 use Rattle.text.proofs.Writing.{four, four-4}
-use Rattle.lines.proofs.put_read_line.Statement.{statement}
-use Rattle.lines.proofs.put_read_line.Tie as tie
+use Rattle.lines.proofs.inner.put_read_line.Statement.{statement}
+use Rattle.lines.proofs.inner.put_read_line.Tie as tie
 
 pub put-read-line-spec : {M : Type 1} → statement M
 unfolding readLine

@@ -1,0 +1,92 @@
+// Each function asks for the room that it fills, which the crates above have measured, and answers the place after what it put.
+ghost use Rattle.text.specs.Writing.{Room, Wrote};
+ghost use Rattle.lines.specs.Lines.{numberField, wordField, labelledNumber, labelledWord, headerLine, extent, readLine, refusalLine};
+use text::inner::put_byte;
+use text::inner::put_bytes;
+use text::inner::put_number;
+use text::inner::put_or_dash;
+
+// Puts a number and the byte that ends it.
+fn put_number_field(out: &mut [u8], at: usize, n: usize, end: u8) -> usize
+    requires { ⌜ Room at (numberField n end) (now out) ⌝ }
+    ensures { λ r. ⌜ Wrote at (numberField n end) (now (out .entry)) (now (out .exit)) r ⌝ }
+{
+    let next = put_number(out, at, n);
+    put_byte(out, next, end)
+}
+
+// Puts a word, "-" where it is empty, and the byte that ends it.
+fn put_word_field(out: &mut [u8], at: usize, word: &[u8], end: u8) -> usize
+    requires { ⌜ Room at (wordField (now word) end) (now out) ⌝ }
+    ensures { λ r. ⌜ Wrote at (wordField (now (word .entry)) end) (now (out .entry)) (now (out .exit)) r ⌝ }
+{
+    let next = put_or_dash(out, at, word);
+    put_byte(out, next, end)
+}
+
+// Puts a number behind its label.
+fn put_labelled_number(out: &mut [u8], at: usize, label: &[u8], n: usize, end: u8) -> usize
+    requires { ⌜ Room at (labelledNumber (now label) n end) (now out) ⌝ }
+    ensures { λ r. ⌜ Wrote at (labelledNumber (now (label .entry)) n end) (now (out .entry)) (now (out .exit)) r ⌝ }
+{
+    let next = put_bytes(out, at, label);
+    put_number_field(out, next, n, end)
+}
+
+// Puts a word behind its label.
+fn put_labelled_word(out: &mut [u8], at: usize, label: &[u8], word: &[u8], end: u8) -> usize
+    requires { ⌜ Room at (labelledWord (now label) (now word) end) (now out) ⌝ }
+    ensures { λ r. ⌜ Wrote at (labelledWord (now (label .entry)) (now (word .entry)) end) (now (out .entry)) (now (out .exit)) r ⌝ }
+{
+    let next = put_bytes(out, at, label);
+    put_word_field(out, next, word, end)
+}
+
+// Puts the line of a header.
+pub fn put_header_line(out: &mut [u8], at: usize, flows: usize, key: &[u8], reads: usize) -> usize
+    requires { ⌜ Room at (headerLine flows (now key) reads) (now out) ⌝ }
+    ensures { λ r. ⌜ Wrote at (headerLine flows (now (key .entry)) reads) (now (out .entry)) (now (out .exit)) r ⌝ }
+{
+    let next = put_labelled_number(out, at, b"flows ", flows, b' ');
+    let after = put_labelled_word(out, next, b"key ", key, b' ');
+    put_labelled_number(out, after, b"reads ", reads, b'\n')
+}
+
+// Puts a read's number of bases, and the first and the last base of its insert.
+fn put_extent(out: &mut [u8], at: usize, bases: usize, first: usize, last: usize) -> usize
+    requires { ⌜ Room at (extent bases first last) (now out) ⌝ }
+    ensures { λ r. ⌜ Wrote at (extent bases first last) (now (out .entry)) (now (out .exit)) r ⌝ }
+{
+    let next = put_number_field(out, at, bases, b' ');
+    let after = put_number_field(out, next, first, b' ');
+    put_number_field(out, after, last, b' ')
+}
+
+// Puts the line of a read.
+pub fn put_read_line(
+    out: &mut [u8],
+    at: usize,
+    position: usize,
+    name: &[u8],
+    bases: usize,
+    first: usize,
+    last: usize,
+    insert: &[u8],
+) -> usize
+    requires { ⌜ Room at (readLine position (now name) bases first last (now insert)) (now out) ⌝ }
+    ensures { λ r. ⌜ Wrote at (readLine position (now (name .entry)) bases first last (now (insert .entry))) (now (out .entry)) (now (out .exit)) r ⌝ }
+{
+    let next = put_number_field(out, at, position, b' ');
+    let after = put_word_field(out, next, name, b' ');
+    let end = put_extent(out, after, bases, first, last);
+    put_word_field(out, end, insert, b'\n')
+}
+
+// Puts the line of a refusal.
+pub fn put_refusal_line(out: &mut [u8], at: usize, number: usize, place: usize) -> usize
+    requires { ⌜ Room at (refusalLine number place) (now out) ⌝ }
+    ensures { λ r. ⌜ Wrote at (refusalLine number place) (now (out .entry)) (now (out .exit)) r ⌝ }
+{
+    let next = put_labelled_number(out, at, b"refused ", number, b' ');
+    put_labelled_number(out, next, b"at ", place, b'\n')
+}

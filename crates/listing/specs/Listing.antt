@@ -6,10 +6,12 @@ use lib.ListN.{length}
 use lib.Dec.{ltb}
 use Rattle.sff_format.specs.declared.Answer.{Answer}
 use Rattle.sff_format.specs.declared.Answer.the-variants.{Accepted, Refused}
+use Rattle.sff_format.specs.declared.ReadView.{ReadView}
 use Rattle.sff_format.specs.Model.{Read, File}
 use Rattle.sff_format.specs.FileTest.{fileTest}
 use Rattle.sff_format.specs.Parse.{parse}
 use Rattle.sff_format.specs.Insert.{insertFirst, insertLast, insertOf}
+use Rattle.sff_format.specs.View.{bytesIn, viewFirst, viewLast, insertIn}
 use Rattle.lines.specs.Lines.{headerLine, readLine, refusalLine}
 
 -- "A read's line is position, name, N, first, last, insert"
@@ -39,3 +41,7 @@ enough n = 7 * n + 64
 -- the listing where a buffer of that length has room for any of so many bytes, and else nothing
 unfoldable pub listingIn : ℕ → List ℕ → List ℕ
 listingIn room b = cond (ltb room (enough (length b))) [] (listing b)
+
+-- a read's line, from what is said of the read in numbers
+unfoldable pub viewLine : List ℕ → ℕ → ReadView → List ℕ
+viewLine b position v = readLine position (bytesIn b (v .name)) (v .bases .size) (viewFirst v) (viewLast v) (insertIn b v)

@@ -1,1 +1,97 @@
 // The listing of a file, into a lent buffer.
+ghost use mathlib.Core.Path.{_≡_};
+ghost use mathlib.Core.Bool.{not};
+ghost use Prim.Native.Nat.{_≤_, _<_};
+ghost use lib.Dec.{ltb};
+ghost use lib.ListN.{length};
+ghost use Rattle.octets.specs.Parts.{putAt};
+ghost use Rattle.sff_format.specs.declared.Answer.the-variants.{Accepted};
+ghost use Rattle.sff_format.specs.FileTest.{fileTest};
+ghost use Rattle.sff_format.specs.Parse.{parse};
+ghost use Rattle.sff_header.specs.Header.{headerOf, Small};
+ghost use Rattle.text.specs.Writing.{Room, Wrote};
+ghost use Rattle.listing.specs.Listing.{viewLine, linesFrom, fileLines, enough, listingIn};
+use lines::inner::put_header_line;
+use lines::inner::put_read_line;
+use lines::inner::put_refusal_line;
+use octets::stretch;
+use sff::file_test;
+use sff::inner::past_index;
+use sff::view::insert;
+use sff::view::name;
+use sff_format::Answer;
+use sff_format::ReadView;
+use sff_header::Header;
+use sff_header::inner::header_fields;
+use sff_read::first_base;
+use sff_read::inner::read_end;
+use sff_read::inner::read_view;
+use sff_read::last_base;
+
+// Puts a read's line.
+fn put_view_line(file: &[u8], view: ReadView, position: usize, out: &mut [u8], at: usize) -> usize
+    requires { ⌜ Room at (viewLine (now file) position view) (now out) ⌝ }
+    ensures { λ r. ⌜ Wrote at (viewLine (now (file .entry)) position view) (now (out .entry)) (now (out .exit)) r ⌝ }
+{
+    let bases = view.bases.size;
+    let first = first_base(view).0;
+    let last = last_base(view).0;
+    put_read_line(
+        out,
+        at,
+        position,
+        name(view, file),
+        bases,
+        first,
+        last,
+        insert(view, file),
+    )
+}
+
+// Puts the lines of an accepted file's reads.
+fn put_reads(file: &[u8], header: Header, out: &mut [u8], at: usize) -> usize
+    requires { ⌜ fileTest (now file) ≡ Accepted ⌝ }
+    requires { ⌜ header ≡ headerOf (now file) ⌝ }
+    requires { ⌜ Small header ⌝ }
+    requires { ⌜ Room at (linesFrom 0 (parse (now file) .reads)) (now out) ⌝ }
+    ensures { λ r. ⌜ Wrote at (linesFrom 0 (parse (now (file .entry)) .reads)) (now (out .entry)) (now (out .exit)) r ⌝ }
+{
+    let flows = header.flows;
+    let reads = header.reads;
+    let mut next = at;
+    let mut position = 0;
+    let mut place = header.length;
+    let mut passed = false;
+    while position < reads {
+        let here = past_index(file, header, place, passed);
+        let start = here.place;
+        let view = read_view(file, start, flows);
+        next = put_view_line(file, view, position, out, next);
+        position += 1;
+        place = read_end(file, start, flows);
+        passed = here.passed;
+    }
+    next
+}
+
+// Puts the lines of an accepted file.
+fn put_file(file: &[u8], out: &mut [u8]) -> usize
+    requires { ⌜ fileTest (now file) ≡ Accepted ⌝ }
+    requires { ⌜ Room 0 (fileLines (parse (now file))) (now out) ⌝ }
+    ensures { λ r. ⌜ Wrote 0 (fileLines (parse (now (file .entry)))) (now (out .entry)) (now (out .exit)) r ⌝ }
+{
+    let header = header_fields(file);
+    let key = stretch(file, 31 + header.flows, header.key_length);
+    let next = put_header_line(out, 0, header.flows, key, header.reads);
+    put_reads(file, header, out, next)
+}
+
+// Whether a buffer has room for the listing of any `size` bytes.
+pub fn has_room(size: usize, room: usize) -> bool
+    ensures { λ r. ⌜ r ≡ not (ltb room (enough size)) ⌝ }
+{
+    if room < 64 {
+        return false;
+    }
+    size <= (room - 64) / 7
+}

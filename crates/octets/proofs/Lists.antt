@@ -1,5 +1,7 @@
 -- The laws of `putAt` and `part` that the proofs of this crate and of its clients cite. Assumes nothing.
 use mathlib.Core.Path.{_≡_, refl, sym, ap, _∙_}
+use mathlib.Core.Bool.{Bool, true, false, cond}
+use lib.Dec.{leb}
 use mathlib.Core.List.{List, [], _∷_, _++_, append-assoc, append-nil}
 use Prim.Native.Nat.{ℕ, zero, suc, _+_, _-_, _≤_, _<_}
 use native.Mathlib.Nat.{add-zero, add-suc, add-assoc, suc-add, le-of-lt}
@@ -145,3 +147,11 @@ whole-in at n l h = rw (le-leb (at + n) (length l) h)
 pub whole-out : (at n : ℕ) (l : List ℕ) → length l < at + n → wholePart at n l ≡ []
 unfolding wholePart
 whole-out at n l h = rw (lt-leb (at + n) (length l) h)
+
+pub whole-none : (at : ℕ) (l : List ℕ) → wholePart at 0 l ≡ []
+unfolding wholePart
+whole-none at l = go (leb (at + 0) (length l))
+  where
+    go : (t : Bool) → cond t (take 0 (drop at l)) [] ≡ []
+    go true = refl
+    go false = refl

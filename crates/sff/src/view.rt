@@ -1,9 +1,11 @@
 // What a step says of a read, as parts of the lent file. A view that no step gave may name bytes outside of the file: its part is then the file's empty front.
 ghost use mathlib.Core.Path.{_≡_};
-ghost use Rattle.sff_format.specs.Step.{bytesIn};
+ghost use Rattle.sff_format.specs.View.{bytesIn, insertIn};
 use octets::stretch;
 use sff_format::ReadView;
 use sff_format::Stretch;
+use sff_read::first_base;
+use sff_read::last_base;
 
 fn bytes_in(s: &[u8], x: Stretch) -> &[u8]
     ensures { λ r. ⌜ now r ≡ bytesIn (now (s .entry)) x ⌝ }
@@ -40,4 +42,17 @@ pub fn qualities(view: ReadView, s: &[u8]) -> &[u8]
     ensures { λ r. ⌜ now r ≡ bytesIn (now (s .entry)) (view .qualities) ⌝ }
 {
     bytes_in(s, view.qualities)
+}
+
+// The bases of the insert, which may be none.
+pub fn insert(view: ReadView, s: &[u8]) -> &[u8]
+    ensures { λ r. ⌜ now r ≡ insertIn (now (s .entry)) view ⌝ }
+{
+    let first = first_base(view);
+    let last = last_base(view);
+    if first.0 > last.0 {
+        return &s[..0];
+    }
+    let before = first.0 - 1;
+    stretch(bases(view, s), before, last.0 - before)
 }

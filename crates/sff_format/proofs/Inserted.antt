@@ -1,14 +1,23 @@
--- The insert lies within the read. Assumes nothing.
-use Prim.Native.Nat.{ℕ, _≤_}
+-- The insert lies within the read, and a view's insert is the read's. Assumes nothing.
+use Prim.Native.Nat.{ℕ, suc, _+_, _-_, _*_, _≤_}
 use mathlib.Core.Bool.{Bool, true, false, cond}
+use mathlib.Core.Path.{_≡_, refl, sym, ap}
 use mathlib.Core.List.{List}
 use native.Mathlib.Omega.{arith}
 use lib.ListN.{length, length-take, length-drop}
 use lib.Dec.{eqb}
+use Rattle.octets.specs.Numbers.{Bytes}
+use Rattle.octets.proofs.Lists.{length-part, whole-in}
+use Rattle.sff_format.specs.declared.Answer.the-variants.{Accepted}
 use Rattle.sff_format.specs.Model.{Read}
-use Rattle.sff_format.specs.Rules.{rightLimit}
+use Rattle.sff_format.specs.Rules.{leftLimit, rightLimit}
 use Rattle.sff_format.specs.Valid.{ValidRead}
-use Rattle.sff_format.specs.Insert.{rightEnd, lastBase, insertFirst, insertLast, insertOf}
+use Rattle.sff_format.specs.ReadTest.{sectionLength, baseCount, qualityRight, adapterRight, readTest}
+use Rattle.sff_format.specs.Parse.{parseRead}
+use Rattle.sff_format.specs.Insert.{firstBase, rightEnd, lastBase, insertFirst, insertLast, insertOf}
+use Rattle.sff_format.specs.View.{viewAt, viewFirst, viewLast, insertIn}
+use Rattle.sff_format.proofs.ReadLaid.{data-fits, read-valid}
+use Rattle.sff_format.proofs.Views.{bases-viewed}
 
 -- what a right clip within its limit stands for
 right-in : (n clip : ℕ) → clip ≤ rightLimit n → rightEnd n clip ≤ n
@@ -19,14 +28,59 @@ right-in n clip h = go (eqb clip 0)
     go true = omega arith
     go false = h
 
+-- what a left clip within its limit is
+left-in : (n clip : ℕ) → clip ≤ leftLimit n → clip ≤ n + 1
+unfolding leftLimit
+left-in n clip h = omega arith
+
 module _ {characters : List ℕ} {r : Read} (v : ValidRead characters r) where
   -- the last base, also of an empty insert
   pub last-in : insertLast r ≤ length (r .bases)
   unfolding lastBase
   last-in = let h = right-in (length (r .bases)) (r .quality-right) (v .quality-right-good) in omega arith
 
-  pub insert-in : insertFirst r ≤ insertLast r → insertLast r ≤ length (r .bases)
-  insert-in h = last-in
+  -- the first base lies in the read, or right after it
+  pub first-in : insertFirst r ≤ length (r .bases) + 1
+  unfolding firstBase
+  first-in =
+      let q = left-in (length (r .bases)) (r .quality-left) (v .quality-left-good) in
+      let a = left-in (length (r .bases)) (r .adapter-left) (v .adapter-left-good) in
+      omega arith
+
+-- there is a first base
+pub first-least : (ql al : ℕ) → 1 ≤ firstBase ql al
+unfolding firstBase
+first-least ql al = omega arith
+
+module _ (characters b : List ℕ) (p : ℕ) (y : Bytes b) (e : readTest characters b p ≡ Accepted) where
+  size-viewed : viewAt (length characters) b p .bases .size ≡ length (parseRead (length characters) b p .bases)
+  unfolding viewAt parseRead
+  size-viewed =
+      let f = data-fits characters b p e in
+      sym (length-part (p + sectionLength b p + 2 * length characters + baseCount b p) (baseCount b p) b (omega arith))
+
+  pub bases-counted : baseCount b p ≡ length (parseRead (length characters) b p .bases)
+  unfolding viewAt
+  bases-counted = size-viewed
+
+  first-viewed : viewFirst (viewAt (length characters) b p) ≡ insertFirst (parseRead (length characters) b p)
+  unfolding viewAt parseRead
+  first-viewed = refl
+
+  last-viewed : viewLast (viewAt (length characters) b p) ≡ insertLast (parseRead (length characters) b p)
+  unfolding viewAt parseRead
+  last-viewed = ap (λ (n : ℕ). lastBase n (qualityRight b p) (adapterRight b p)) size-viewed
+
+  -- the insert of a view is the insert of the read
+  pub insert-viewed : insertIn b (viewAt (length characters) b p) ≡ insertOf (parseRead (length characters) b p)
+  unfolding insertIn insertOf
+  insert-viewed =
+      let r : Read = parseRead (length characters) b p in
+      let v = read-valid characters b p y e in
+      let f = first-in v in
+      let l = last-in v in
+      let o = first-least (r .quality-left) (r .adapter-left) in
+      rw (first-viewed, last-viewed, bases-viewed characters b p e) (whole-in (insertFirst r - 1) (suc (insertLast r) - insertFirst r) (r .bases) (omega arith))
 
 pub length-insert : (r : Read) → length (insertOf r) ≤ length (r .bases)
 unfolding insertOf

@@ -16,7 +16,8 @@ use Rattle.sff_format.specs.Model.{Read}
 use Rattle.sff_format.specs.HeaderTest.{indexLength, headerTest, headerLength, flows, flowCharacters, readCount}
 use Rattle.sff_format.specs.ReadTest.{sectionLength, baseCount, readTest, dataTest, readEnd}
 use Rattle.sff_format.specs.FileTest.{indexHere, passTest, indexTest, pastIndex, nowPassed, endTest, boundaryTest, fileTest}
-use Rattle.sff_format.specs.Step.{State, found, stop, concluded, stepTest, readOrNone, moved, boundary, indexPassed, viewAt, step, freshPlace, fresh, onStop, lastAnswer, onFound, viewsFound}
+use Rattle.sff_format.specs.Step.{State, found, stop, concluded, stepTest, readOrNone, moved, boundary, indexPassed, step, freshPlace, fresh, onStop, lastAnswer, onFound, viewsFound}
+use Rattle.sff_format.specs.View.{viewAt}
 use Rattle.sff_format.specs.Parse.{parseRead, parseReads, parse}
 use Rattle.sff_format.proofs.Answers.{first-ok, second-ok, both-ok, under-ok, then-accepted, then-assoc, then-on}
 use Rattle.sff_format.proofs.HeaderLaws.{header-fits, characters-length}

@@ -11,7 +11,7 @@ use Rattle.octets.proofs.Stands.{stands-read, length-words, length-wordsAt, wor
 use Rattle.sff_format.specs.declared.Answer.the-variants.{Accepted}
 use Rattle.sff_format.specs.ReadTest.{sectionLength, nameLength, baseCount, readTest}
 use Rattle.sff_format.specs.Parse.{parseRead}
-use Rattle.sff_format.specs.Step.{viewAt, bytesIn}
+use Rattle.sff_format.specs.View.{viewAt, bytesIn}
 use Rattle.sff_format.proofs.ReadLaid.{section-is, section-fits, data-fits}
 
 module _ (characters b : List ℕ) (p : ℕ) (e : readTest characters b p ≡ Accepted) where

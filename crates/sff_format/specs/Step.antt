@@ -1,17 +1,16 @@
 -- "Reading on". Assumes nothing: these are definitions.
-use Prim.Native.Nat.{ℕ, zero, suc, _+_, _*_}
+use Prim.Native.Nat.{ℕ, zero, suc, _+_}
 use mathlib.Core.Bool.{Bool, false, cond}
 use mathlib.Core.List.{List, [], _∷_}
 use lib.ListN.{length}
 use lib.Dec.{ltb}
-use Rattle.octets.specs.Parts.{wholePart}
 use Rattle.sff_format.specs.declared.Answer.{Answer}
 use Rattle.sff_format.specs.declared.Answer.the-variants.{Accepted, Refused}
-use Rattle.sff_format.specs.declared.Stretch.{Stretch}
 use Rattle.sff_format.specs.declared.ReadView.{ReadView}
 use Rattle.sff_format.specs.Answer.{when, _then_}
 use Rattle.sff_format.specs.HeaderTest.{headerTest, headerLength, flows, flowCharacters, readCount}
-use Rattle.sff_format.specs.ReadTest.{sectionLength, nameLength, baseCount, qualityLeft, qualityRight, adapterLeft, adapterRight, readTest, readEnd}
+use Rattle.sff_format.specs.ReadTest.{readTest, readEnd}
+use Rattle.sff_format.specs.View.{viewAt}
 use Rattle.sff_format.specs.FileTest.{indexTest, pastIndex, nowPassed, endTest}
 
 -- "A reader's state holds a byte place, the reads passed and whether the index is passed"
@@ -53,28 +52,6 @@ stepTest b s =
 -- the state "moved by one read"
 abbrev pub moved : List ℕ → State → State
 moved b s = record { place = readEnd (flows b) b (boundary b s); passed-reads = s .passed-reads + 1; passed-index = indexPassed b s }
-
--- what a step says of the read at place p, of F flow values
-unfoldable pub viewAt : ℕ → List ℕ → ℕ → ReadView
-viewAt F b p =
-    let d = p + sectionLength b p in
-    let n = baseCount b p in
-    record {
-      place = p;
-      name = record { at = p + 16; size = nameLength b p };
-      values = record { at = d; size = 2 * F };
-      increments = record { at = d + 2 * F; size = n };
-      bases = record { at = d + 2 * F + n; size = n };
-      qualities = record { at = d + 2 * F + n + n; size = n };
-      «quality_left» = qualityLeft b p;
-      «quality_right» = qualityRight b p;
-      «adapter_left» = adapterLeft b p;
-      «adapter_right» = adapterRight b p;
-    }
-
--- a stretch of the file, none of it where it does not lie in the file whole
-abbrev pub bytesIn : List ℕ → Stretch → List ℕ
-bytesIn b x = wholePart (x .at) (x .size) b
 
 -- the read and the state after it, or a refusal and the state unmoved
 pub data Step : Type 0 where

@@ -5,7 +5,7 @@ ghost use lib.ListN.{length};
 ghost use Rattle.octets.specs.Parts.{part, up8};
 ghost use Rattle.sff_format.specs.Rules.{leftLimit, rightLimit};
 ghost use Rattle.sff_format.specs.ReadTest.{nameTest, clipTest, dataTest, readTest, readEnd};
-ghost use Rattle.sff_format.specs.Step.{viewAt};
+ghost use Rattle.sff_format.specs.View.{viewAt};
 ghost use Rattle.sff_read.specs.Fields.{FieldsAt};
 use crate::BasePosition;
 use octets::ByteTest;

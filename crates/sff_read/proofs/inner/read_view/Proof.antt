@@ -1,4 +1,4 @@
-use Rattle.sff_format.specs.Step.{viewAt}
+use Rattle.sff_format.specs.View.{viewAt}
 use borrow.Author.Needs.{needs}
 use Rattle.sff_read.proofs.inner.read_view.Statement.{statement}
 use Rattle.sff_read.proofs.inner.read_view.Tie as tie

@@ -1,0 +1,40 @@
+-- What is said of a read in numbers: its place, where its contents lie, and its clips. Assumes nothing: these are definitions.
+use Prim.Native.Nat.{ℕ, suc, _+_, _-_, _*_}
+use mathlib.Core.List.{List}
+use Rattle.octets.specs.Parts.{wholePart}
+use Rattle.sff_format.specs.declared.Stretch.{Stretch}
+use Rattle.sff_format.specs.declared.ReadView.{ReadView}
+use Rattle.sff_format.specs.ReadTest.{sectionLength, nameLength, baseCount, qualityLeft, qualityRight, adapterLeft, adapterRight}
+use Rattle.sff_format.specs.Insert.{firstBase, lastBase}
+
+-- the read at place p, of F flow values
+unfoldable pub viewAt : ℕ → List ℕ → ℕ → ReadView
+viewAt F b p =
+    let d = p + sectionLength b p in
+    let n = baseCount b p in
+    record {
+      place = p;
+      name = record { at = p + 16; size = nameLength b p };
+      values = record { at = d; size = 2 * F };
+      increments = record { at = d + 2 * F; size = n };
+      bases = record { at = d + 2 * F + n; size = n };
+      qualities = record { at = d + 2 * F + n + n; size = n };
+      «quality_left» = qualityLeft b p;
+      «quality_right» = qualityRight b p;
+      «adapter_left» = adapterLeft b p;
+      «adapter_right» = adapterRight b p;
+    }
+
+-- a stretch of the file, none of it where it does not lie in the file whole
+abbrev pub bytesIn : List ℕ → Stretch → List ℕ
+bytesIn b x = wholePart (x .at) (x .size) b
+
+-- the first and the last base of its insert, and the insert's bases
+abbrev pub viewFirst : ReadView → ℕ
+viewFirst v = firstBase (v .«quality_left») (v .«adapter_left»)
+
+abbrev pub viewLast : ReadView → ℕ
+viewLast v = lastBase (v .bases .size) (v .«quality_right») (v .«adapter_right»)
+
+unfoldable pub insertIn : List ℕ → ReadView → List ℕ
+insertIn b v = wholePart (viewFirst v - 1) (suc (viewLast v) - viewFirst v) (bytesIn b (v .bases))

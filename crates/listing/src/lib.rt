@@ -8,6 +8,7 @@ ghost use Rattle.octets.specs.Parts.{putAt};
 ghost use Rattle.sff_format.specs.declared.Answer.the-variants.{Accepted};
 ghost use Rattle.sff_format.specs.FileTest.{fileTest};
 ghost use Rattle.sff_format.specs.Parse.{parse};
+ghost use Rattle.io.specs.Counts.{Counts};
 ghost use Rattle.sff_header.specs.Header.{headerOf, Small};
 ghost use Rattle.text.specs.Writing.{Room, Wrote};
 ghost use Rattle.listing.specs.Listing.{viewLine, linesFrom, fileLines, enough, listingIn};
@@ -94,4 +95,21 @@ pub fn has_room(size: usize, room: usize) -> bool
         return false;
     }
     size <= (room - 64) / 7
+}
+
+// Puts the listing of any bytes at the front of `out`, and answers how many bytes it has. Where `out` has not enough room for the listing of any bytes of
+// that length (`has_room`), nothing is put.
+pub fn list(file: &[u8], out: &mut [u8]) -> usize
+    ensures { λ r. ⌜ r ≡ length (listingIn (length (now (out .entry))) (now (file .entry))) ⌝ }
+    ensures { λ _. ⌜ now (out .exit) ≡ putAt 0 (listingIn (length (now (out .entry))) (now (file .entry))) (now (out .entry)) ⌝ }
+    ensures { λ r. ⌜ Counts r (now (out .exit)) ⌝ }
+{
+    if !has_room(file.len(), out.len()) {
+        return 0;
+    }
+    let answer = file_test(file);
+    let Answer::Refused(number, place) = answer else {
+        return put_file(file, out);
+    };
+    put_refusal_line(out, 0, number as usize, place)
 }

@@ -53,21 +53,17 @@ unfolding firstBase
 first-least ql al = omega arith
 
 module _ (characters b : List ℕ) (p : ℕ) (y : Bytes b) (e : readTest characters b p ≡ Accepted) where
-  size-viewed : viewAt (length characters) b p .bases .size ≡ length (parseRead (length characters) b p .bases)
+  pub size-viewed : viewAt (length characters) b p .bases .size ≡ length (parseRead (length characters) b p .bases)
   unfolding viewAt parseRead
   size-viewed =
       let f = data-fits characters b p e in
       sym (length-part (p + sectionLength b p + 2 * length characters + baseCount b p) (baseCount b p) b (omega arith))
 
-  pub bases-counted : baseCount b p ≡ length (parseRead (length characters) b p .bases)
-  unfolding viewAt
-  bases-counted = size-viewed
-
-  first-viewed : viewFirst (viewAt (length characters) b p) ≡ insertFirst (parseRead (length characters) b p)
+  pub first-viewed : viewFirst (viewAt (length characters) b p) ≡ insertFirst (parseRead (length characters) b p)
   unfolding viewAt parseRead
   first-viewed = refl
 
-  last-viewed : viewLast (viewAt (length characters) b p) ≡ insertLast (parseRead (length characters) b p)
+  pub last-viewed : viewLast (viewAt (length characters) b p) ≡ insertLast (parseRead (length characters) b p)
   unfolding viewAt parseRead
   last-viewed = ap (λ (n : ℕ). lastBase n (qualityRight b p) (adapterRight b p)) size-viewed
 

@@ -1,12 +1,10 @@
 // The flow walk and the bases.
 ghost use mathlib.Core.Path.{_≡_};
-ghost use mathlib.Core.Bool.{_||_};
 ghost use Prim.Native.Nat.{_+_, _-_, _≤_, _<_};
-ghost use lib.Dec.{eqb};
-ghost use lib.ListN.{length, getD};
+ghost use lib.ListN.{length};
 ghost use Rattle.octets.specs.Parts.{part};
-ghost use Rattle.sff_format.specs.Answer.{stopped, _then_};
 ghost use Rattle.sff_format.specs.ReadTest.{walk, basesTest};
+ghost use Rattle.sff_read.specs.Bases.{callAt, wrongBase};
 use crate::BasePosition;
 use crate::FlowPosition;
 use sff_format::Answer;
@@ -38,16 +36,16 @@ fn walk_stop(
     }
 }
 
-// Whether a base may stand at a flow position, whose character stands at 30 + the position.
+// Whether a base may stand at a flow position.
 fn is_call(s: &[u8], flow: FlowPosition, base: u8) -> bool
     requires { ⌜ 30 + flow .0 < length (now s) ⌝ }
-    ensures { λ r. ⌜ r ≡ (eqb base (getD (now (s .entry)) (30 + flow .0) 0) || eqb base 78) ⌝ }
+    ensures { λ r. ⌜ r ≡ callAt (now (s .entry)) (flow .0) base ⌝ }
 {
     let at = 30 + flow.0;
     (base == s[at]) | (base == b'N')
 }
 
-// What is answered where the base at `base` is wrong: first the rest of the walk after its flow position, since all of the walk comes before any base.
+// What is answered where a base is wrong: all of the walk comes before any base, so the rest of the walk goes first.
 fn wrong_base(
     s: &[u8],
     at: usize,
@@ -57,7 +55,7 @@ fn wrong_base(
     flows: usize,
 ) -> Answer
     requires { ⌜ (at + bases + bases ≤ length (now s)) × (bases < 4294967296) × (flows < 65536) × (1 ≤ base .0) × (base .0 ≤ bases) × (flow .0 ≤ flows) ⌝ }
-    ensures { λ r. ⌜ r ≡ (stopped 10 (walk flows (flow .0) (at + base .0) (at + bases) (now (s .entry))) (at + bases) then Answer.Refused 11 (at + bases + (base .0 - 1))) ⌝ }
+    ensures { λ r. ⌜ r ≡ wrongBase flows (flow .0) at (base .0) bases (now (s .entry)) ⌝ }
 {
     let k = base.0;
     let stop = walk_stop(s, at, bases, base.next(), flow, flows);

@@ -85,7 +85,7 @@ module _ {b l₀ : List ℕ} {at i n p : ℕ} {q : Bool} {next : ℕ} {l : List 
     piece =
         let c : length (flowCharacters b) ≡ flows b = characters-length b (g .head) in
         let v : viewLine b i (viewAt (flows b) b (pastIndex b p q)) ≡ lineOf i (parseRead (flows b) b (pastIndex b p q))
-          = rw c at (line-viewed (flowCharacters b) b (pastIndex b p q) i (g .bytes) read-ok) in
+        = rw c at (line-viewed (flowCharacters b) b (pastIndex b p q) i (g .bytes) read-ok) in
         rw (s, v)
 
     -- what the code has of the read: its place x, of F flow values, and its view v

@@ -23,7 +23,7 @@ put-reads-spec =
     Inv-loop
     μ-loop
     (λ c.
- let d = c .before .before in
+    let d = c .before .before in
     let h = d .args .header in
     let e = d .pre .1 .0 in
     let n : h .reads - 0 ≡ h .reads = omega arith in
@@ -31,27 +31,27 @@ put-reads-spec =
     rw (n, ← (reads-of h _ e), ← (length-of h _ e)) (listing-start _ _ _ y (d .pre .0) (d .pre .1 .1 .1)))
     (λ c κs. let d = c .before .before .before .before in (d .pre .1 .0, (d .pre .1 .1 .0, c .before .loop .inv .inside)))
     (λ c κs.
- let d = c .before .before .before .before .before in
+    let d = c .before .before .before .before .before in
     let l = c .before .before .loop in
     let s : d .args .header .reads - l .position ≡ suc (d .args .header .reads - (l .position + 1)) = omega arith in
     let f = sym (flows-of (d .args .header) _ (d .pre .1 .0)) in
     (rw (c .past-index .ensures .0) (begins (l .inv) _ s), search needs))
     (λ c κs.
- let d = c .before .before .before .before .before .before .before in
+    let d = c .before .before .before .before .before .before .before in
     let l = c .before .before .before .before .loop in
     let s : d .args .header .reads - l .position ≡ suc (d .args .header .reads - (l .position + 1)) = omega arith in
     let f = sym (flows-of (d .args .header) _ (d .pre .1 .0)) in
     listing-room (l .inv) _ s _ _ _ f (c .before .before .past-index .ensures .0) (c .before .read-view .ensures))
     (λ c. search needs)
     (λ c κs.
- let d = c .before .before .before .before .before .before .before .before .before .before in
+    let d = c .before .before .before .before .before .before .before .before .before .before in
     let l = c .before .before .before .before .before .before .before .loop in
     let s : d .args .header .reads - l .position ≡ suc (d .args .header .reads - (l .position + 1)) = omega arith in
     let f = sym (flows-of (d .args .header) _ (d .pre .1 .0)) in
     (rw (c .before .before .before .before .before .past-index .ensures .0) (begins (l .inv) _ s), search needs))
     (λ c. search needs)
     (λ c.
- let d = c .before .before .before .before .before .before .before .before .before .before .before in
+    let d = c .before .before .before .before .before .before .before .before .before .before .before in
     let l = c .before .before .before .before .before .before .before .before .loop in
     let s : d .args .header .reads - l .position ≡ suc (d .args .header .reads - (l .position + 1)) = omega arith in
     let f = sym (flows-of (d .args .header) _ (d .pre .1 .0)) in

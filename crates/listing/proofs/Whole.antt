@@ -1,12 +1,12 @@
 -- A listing and its pieces, as the code puts them. Assumes nothing.
-use Prim.Native.Nat.{ℕ, _+_, _≤_}
+use Prim.Native.Nat.{ℕ, _+_, _*_, _≤_, _<_}
 use mathlib.Core.Path.{_≡_, refl, sym, ap, _∙_}
 use mathlib.Core.Bool.{Bool, true, false, not}
 use mathlib.Core.List.{List, [], _++_}
 use native.Mathlib.Omega.{arith}
 use lib.Dec.{ltb}
 use lib.ListN.{length, take}
-use borrow.Author.Tests.{ltb-false, not-true, not-false}
+use borrow.Author.Tests.{ltb-false, lt-ltb, le-ltb, not-true, not-false}
 use Rattle.octets.specs.Parts.{putAt, wholePart}
 use Rattle.octets.specs.Numbers.{Bytes}
 use Rattle.octets.proofs.Lists.{whole-in}
@@ -20,7 +20,7 @@ use Rattle.sff_format.proofs.FileLaid.{length-parsed}
 use Rattle.text.specs.Writing.{Room, Wrote}
 use Rattle.text.proofs.Writing.{room, wrote-none, wrote-counts}
 use Rattle.lines.specs.Lines.{headerLine, refusalLine}
-use Rattle.listing.specs.Listing.{linesFrom, fileLines, listed, listing, enough, listingIn}
+use Rattle.listing.specs.Listing.{linesFrom, fileLines, listed, listing, enough, listingIn, tooLong, printed, printedIn}
 use Rattle.listing.proofs.Lengths.{listing-short}
 
 module _ (b : List ℕ) (e : fileTest b ≡ Accepted) where
@@ -50,20 +50,29 @@ pub listing-refused : (b : List ℕ) (n p : ℕ) → fileTest b ≡ Refused n p 
 unfolding listing listed
 listing-refused b n p e = rw e
 
+-- what is promised where the text xs is put at the front of l: the count, the buffer, and that the count is one of its bytes
+abbrev Put : List ℕ → List ℕ → List ℕ → ℕ → Type 0
+Put xs l l′ n = (n ≡ length xs) × ((l′ ≡ putAt 0 xs l) × ((n ≤ length l′) × (n ≡ length (take n l′))))
+
+nothing-put : (l : List ℕ) → Put [] l l 0
+nothing-put l = (refl, (wrote-none 0 l .is, (omega arith, refl)))
+
+text-put : {xs l l′ : List ℕ} {n : ℕ} → Wrote 0 xs l l′ n → Room 0 xs l → Put xs l l′ n
+text-put w r = (let n = w .next in omega arith, (w .is, wrote-counts w r))
+
 -- r is what `has_room` answered of the buffer l
 module _ (b l : List ℕ) (r : Bool) (is : r ≡ not (ltb (length l) (enough (length b)))) where
-  -- what is answered where nothing is put
-  pub none-put : not r ≡ true → (0 ≡ length (listingIn (length l) b)) × ((l ≡ putAt 0 (listingIn (length l) b) l) × ((0 ≤ length l) × (0 ≡ length (take 0 l))))
+  pub none-listed : not r ≡ true → Put (listingIn (length l) b) l l 0
   unfolding listingIn
-  none-put h =
+  none-listed h =
       let t : ltb (length l) (enough (length b)) ≡ true = not-false _ (sym is ∙ not-true r h) in
-      rw t (refl, (wrote-none 0 l .is, (omega arith, refl)))
+      rw t (nothing-put l)
 
   module _ (y : Bytes b) (h : not r ≡ false) where
     less : ltb (length l) (enough (length b)) ≡ false
     less = not-true _ (sym is ∙ not-false r h)
 
-    -- xs is the listing: there is room for it, and what is answered where it is put
+    -- xs is the listing
     module _ (xs : List ℕ) (e : listing b ≡ xs) where
       pub room-for : Room 0 xs l
       room-for =
@@ -71,7 +80,22 @@ module _ (b l : List ℕ) (r : Bool) (is : r ≡ not (ltb (length l) (enough (le
           let t = ltb-false (length l) (enough (length b)) less in
           rw (← e) (room (omega arith))
 
-      pub whole-put : {l′ : List ℕ} {n : ℕ} → Wrote 0 xs l l′ n
-          → (n ≡ length (listingIn (length l) b)) × ((l′ ≡ putAt 0 (listingIn (length l) b) l) × ((n ≤ length l′) × (n ≡ length (take n l′))))
+      pub all-listed : {l′ : List ℕ} {n : ℕ} → Wrote 0 xs l l′ n → Put (listingIn (length l) b) l l′ n
       unfolding listingIn
-      whole-put w = rw (less, e) (let n = w .next in omega arith, (w .is, wrote-counts w room-for))
+      all-listed w = rw (less, e) (text-put w room-for)
+
+module _ (b l : List ℕ) where
+  pub none-printed : length l < 458816 → Put (printedIn (length l) b) l l 0
+  unfolding printedIn
+  none-printed h = rw (lt-ltb (length l) 458816 h) (nothing-put l)
+
+  module _ (h : 458816 ≤ length l) where
+    pub long-printed : 65536 < length b → {l′ : List ℕ} {n : ℕ} → Wrote 0 tooLong l l′ n → Put (printedIn (length l) b) l l′ n
+    unfolding printedIn printed
+    long-printed k w = rw (le-ltb (length l) 458816 h, lt-ltb 65536 (length b) k) (text-put w (room (omega arith)))
+
+    pub list-printed : length b ≤ 65536 → {l′ : List ℕ} {n : ℕ} → Put (listingIn (length l) b) l l′ n → Put (printedIn (length l) b) l l′ n
+    unfolding printedIn printed listingIn
+    list-printed k p =
+        let e : printedIn (length l) b ≡ listingIn (length l) b = rw (le-ltb (length l) 458816 h, le-ltb 65536 (length b) k, le-ltb (length l) (enough (length b)) (omega arith)) in
+        rw e p

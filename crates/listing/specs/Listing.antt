@@ -42,6 +42,17 @@ enough n = 7 * n + 64
 unfoldable pub listingIn : ℕ → List ℕ → List ℕ
 listingIn room b = cond (ltb room (enough (length b))) [] (listing b)
 
+-- "longer input than 65,536 bytes prints `too long`"
+abbrev pub tooLong : List ℕ
+tooLong = 116 ∷ 111 ∷ 111 ∷ 32 ∷ 108 ∷ 111 ∷ 110 ∷ 103 ∷ 10 ∷ []
+
+unfoldable pub printed : List ℕ → List ℕ
+printed b = cond (ltb 65536 (length b)) tooLong (listing b)
+
+-- the same in a buffer with room for any of it, and else nothing
+unfoldable pub printedIn : ℕ → List ℕ → List ℕ
+printedIn room b = cond (ltb room (enough 65536)) [] (printed b)
+
 -- a read's line, from what is said of the read in numbers
 unfoldable pub viewLine : List ℕ → ℕ → ReadView → List ℕ
 viewLine b position v = readLine position (bytesIn b (v .name)) (v .bases .size) (viewFirst v) (viewLast v) (insertIn b v)

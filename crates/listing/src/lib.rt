@@ -11,7 +11,7 @@ ghost use Rattle.sff_format.specs.Parse.{parse};
 ghost use Rattle.io.specs.Counts.{Counts};
 ghost use Rattle.sff_header.specs.Header.{headerOf, Small};
 ghost use Rattle.text.specs.Writing.{Room, Wrote};
-ghost use Rattle.listing.specs.Listing.{viewLine, linesFrom, fileLines, enough, listingIn};
+ghost use Rattle.listing.specs.Listing.{viewLine, linesFrom, fileLines, enough, listingIn, printedIn};
 use lines::inner::put_header_line;
 use lines::inner::put_read_line;
 use lines::inner::put_refusal_line;
@@ -28,6 +28,7 @@ use sff_read::first_base;
 use sff_read::inner::read_end;
 use sff_read::inner::read_view;
 use sff_read::last_base;
+use text::inner::put_bytes;
 
 // Puts a read's line.
 fn put_view_line(file: &[u8], view: ReadView, position: usize, out: &mut [u8], at: usize) -> usize
@@ -112,4 +113,26 @@ pub fn list(file: &[u8], out: &mut [u8]) -> usize
         return put_file(file, out);
     };
     put_refusal_line(out, 0, number as usize, place)
+}
+
+// Puts what the lister prints of an input. It takes 458,816 bytes of room, enough for any; with less nothing is put.
+pub fn print(input: &[u8], out: &mut [u8]) -> usize
+    ensures { λ r. ⌜ r ≡ length (printedIn (length (now (out .entry))) (now (input .entry))) ⌝ }
+    ensures { λ _. ⌜ now (out .exit) ≡ putAt 0 (printedIn (length (now (out .entry))) (now (input .entry))) (now (out .entry)) ⌝ }
+    ensures { λ r. ⌜ Counts r (now (out .exit)) ⌝ }
+{
+    if out.len() < 458816 {
+        return 0;
+    }
+    if input.len() > 65536 {
+        return put_bytes(out, 0, b"too long\n");
+    }
+    list(input, out)
+}
+
+// Room for what the lister prints.
+pub fn print_room() -> [u8; 458816]
+    ensures { λ r. ⌜ 458816 ≡ length r ⌝ }
+{
+    [0; 458816]
 }

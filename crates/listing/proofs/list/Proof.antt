@@ -1,6 +1,6 @@
 use mathlib.Core.Path.{sym, _∙_}
 use Rattle.octets.proofs.AllBytes.{bytes-of}
-use Rattle.listing.proofs.Whole.{listing-accepted, listing-refused, none-put, room-for, whole-put}
+use Rattle.listing.proofs.Whole.{listing-accepted, listing-refused, none-listed, room-for, all-listed}
 use borrow.Author.Needs.{needs}
 use Rattle.listing.proofs.list.Statement.{statement}
 use Rattle.listing.proofs.list.Tie as tie
@@ -10,7 +10,7 @@ list-spec =
     tie.close
     (tie.spec
     (λ c κs. search needs)
-    (λ c. none-put _ _ _ (c .before .has-room .ensures) (c .if1 .taken))
+    (λ c. none-listed _ _ _ (c .before .has-room .ensures) (c .if1 .taken))
     (λ c κs. search needs)
     (λ c. search needs)
     (λ c. search needs)
@@ -24,7 +24,7 @@ list-spec =
     let d = c .before .before .before .before .before .before .before .before .before .before .before in
     let y = bytes-of (d .args .file .now) (λ j. c .before .before .before .before .before .before .before .before .before .before .shared-slice-known .given j .fits) in
     let a = sym (c .before .before .before .before .before .before .file-test .ensures) ∙ c .before .before .before .before .enum-told .given .1 in
-    whole-put _ _ _ (c .before .before .before .before .before .before .before .before .has-room .ensures) y (c .before .before .before .before .before .before .before .if1 .left) _ (listing-accepted _ a) (c .before .before .put-file .ensures))
+    all-listed _ _ _ (c .before .before .before .before .before .before .before .before .has-room .ensures) y (c .before .before .before .before .before .before .before .if1 .left) _ (listing-accepted _ a) (c .before .before .put-file .ensures))
     (λ c. search needs)
     (λ c κs.
     let d = c .before .before .before .before .before .before .before .before .before in
@@ -36,4 +36,4 @@ list-spec =
     let d = c .before .before .before .before .before .before .before .before .before .before .before .before in
     let y = bytes-of (d .args .file .now) (λ j. c .before .before .before .before .before .before .before .before .before .before .before .shared-slice-known .given j .fits) in
     let a = sym (c .before .before .before .before .before .before .before .file-test .ensures) ∙ c .before .before .before .before .before .answer .given .1 in
-    whole-put _ _ _ (c .before .before .before .before .before .before .before .before .before .has-room .ensures) y (c .before .before .before .before .before .before .before .before .if1 .left) _ (listing-refused _ _ _ a) (c .before .before .put-refusal-line .ensures)))
+    all-listed _ _ _ (c .before .before .before .before .before .before .before .before .before .has-room .ensures) y (c .before .before .before .before .before .before .before .before .if1 .left) _ (listing-refused _ _ _ a) (c .before .before .put-refusal-line .ensures)))

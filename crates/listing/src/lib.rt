@@ -18,8 +18,6 @@ use lines::inner::put_refusal_line;
 use octets::stretch;
 use sff::file_test;
 use sff::inner::past_index;
-use sff::view::insert;
-use sff::view::name;
 use sff_format::Answer;
 use sff_format::ReadView;
 use sff_header::Header;
@@ -28,6 +26,8 @@ use sff_read::first_base;
 use sff_read::inner::read_end;
 use sff_read::inner::read_view;
 use sff_read::last_base;
+use sff_view::insert;
+use sff_view::name;
 use text::inner::put_bytes;
 
 // Puts a read's line.

@@ -1,4 +1,4 @@
-// The whole-file test, and a reader that goes on by one read at a time. Both only read the lent file.
+// The whole-file test. It only reads the lent file.
 ghost use mathlib.Core.Path.{_≡_};
 ghost use mathlib.Core.Bool.{false};
 ghost use Rattle.sff_format.specs.declared.Answer.the-variants.{Accepted};
@@ -7,8 +7,6 @@ ghost use Rattle.sff_format.specs.FileTest.{boundaryTest, fileTest};
 ghost use Rattle.sff_header.specs.Header.{headerOf, Small};
 
 pub mod inner;
-pub mod reader;
-pub mod view;
 
 use crate::inner::end_test;
 use crate::inner::index_due;

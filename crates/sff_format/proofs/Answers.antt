@@ -6,7 +6,7 @@ use mathlib.Core.List.{List, [], _∷_}
 use native.Mathlib.Omega.{arith}
 use lib.Dec.{ltb, eqb}
 use lib.ListN.{length}
-use borrow.Author.Tests.{not-false, ltb-false, lt-ltb, le-ltb, le-leb, lt-leb, eqb-true, eq-eqb, ne-eqb}
+use borrow.Author.Tests.{not-false, ltb-false, lt-ltb, le-ltb, eqb-true, eq-eqb, ne-eqb}
 use Rattle.octets.specs.Parts.{part}
 use Rattle.octets.specs.Scans.{run, firstNot, Every}
 use Rattle.octets.proofs.Lists.{length-part}
@@ -18,7 +18,7 @@ use Rattle.sff_format.specs.Rules.{isFlow, isCall, walkRun, callRun}
 use Rattle.sff_format.specs.ReadTest.{walk, calls}
 
 -- the code's tests as those of the definitions, for `search`
-pub ruleset tests = (lt-ltb, le-ltb, le-leb, lt-leb, eq-eqb, ne-eqb)
+pub ruleset tests = (lt-ltb, le-ltb, eq-eqb, ne-eqb)
 
 pub not-accepted : {A : Type 0} (n p : ℕ) → Refused n p ≡ Accepted → A
 not-accepted n p e = let z : _≡_ {A = ℕ} 0 1 = cc in absurd (let f : ⊥ = omega arith in f)

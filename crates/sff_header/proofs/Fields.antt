@@ -1,16 +1,13 @@
--- The header's fields by name, the tests as rewrites, and what the first group of tests shows. Assumes nothing.
+-- The header's fields by name, and what the first group of tests shows. Assumes nothing.
 use Prim.Native.Nat.{ℕ, _+_}
 use mathlib.Core.Path.{_≡_}
 use mathlib.Core.List.{List}
-use borrow.Author.Tests.{lt-ltb, le-ltb, eq-eqb, ne-eqb}
 use Rattle.octets.specs.Parts.{up8}
 use Rattle.sff_format.specs.declared.Answer.the-variants.{Accepted}
 use Rattle.sff_format.specs.HeaderTest.{indexOffset, indexLength, readCount, headerLength, keyLength, flows, fixedTest}
 use Rattle.sff_format.proofs.Answers.{second-ok, same-ok}
 use Rattle.sff_header.specs.declared.Header.{Header}
 use Rattle.sff_header.specs.Header.{headerOf}
-
-pub ruleset tests = (lt-ltb, le-ltb, eq-eqb, ne-eqb)
 
 module _ (h : Header) (b : List ℕ) (e : h ≡ headerOf b) where
   pub offset-of : indexOffset b ≡ h .«index_offset»

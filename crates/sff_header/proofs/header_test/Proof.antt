@@ -1,7 +1,8 @@
 use mathlib.Core.Path.{sym, _∙_}
 use Rattle.sff_format.specs.Answer.{when, _then_}
 use Rattle.sff_format.specs.HeaderTest.{headerTest}
-use Rattle.sff_header.proofs.Fields.{tests, length-of, length-good}
+use Rattle.sff_format.proofs.Answers.{tests}
+use Rattle.sff_header.proofs.Fields.{length-of, length-good}
 use borrow.Author.Needs.{needs}
 use Rattle.sff_header.proofs.header_test.Statement.{statement}
 use Rattle.sff_header.proofs.header_test.Tie as tie

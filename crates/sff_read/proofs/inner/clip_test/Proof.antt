@@ -1,4 +1,4 @@
-use Rattle.sff_read.proofs.Tests.{tests}
+use Rattle.sff_format.proofs.Answers.{tests}
 use Rattle.sff_format.specs.Answer.{_then_, when}
 use Rattle.sff_format.specs.ReadTest.{clipTest}
 use borrow.Author.Needs.{needs}

@@ -1,7 +1,7 @@
 use Rattle.sff_read.proofs.ReadLaws.{name-fits, read-by-fields}
 use Rattle.sff_format.specs.ReadTest.{readTest}
 use Rattle.sff_format.specs.Answer.{_then_, when}
-use Rattle.sff_read.proofs.Tests.{tests}
+use Rattle.sff_format.proofs.Answers.{tests}
 use borrow.Author.Needs.{needs}
 use Rattle.sff_read.proofs.inner.read_test.Statement.{statement}
 use Rattle.sff_read.proofs.inner.read_test.Tie as tie

@@ -1,9 +1,9 @@
 -- What the code's forms say in the definitions' words. Assumes nothing: these are definitions.
 use Rattle.sff_format.specs.Step.{State, found, stop}
 use Rattle.sff_format.specs.Step as format
-use Rattle.sff.specs.declared.reader.Reader.{Reader}
-use Rattle.sff.specs.declared.reader.Step.{Step}
-use Rattle.sff.specs.declared.reader.Step.the-variants.{Found, Stopped}
+use Rattle.sff_reader.specs.declared.Reader.{Reader}
+use Rattle.sff_reader.specs.declared.Step.{Step}
+use Rattle.sff_reader.specs.declared.Step.the-variants.{Found, Stopped}
 
 abbrev pub stateOf : Reader → State
 stateOf r = record { place = r .place; passed-reads = r .«passed_reads»; passed-index = r .«passed_index» }

@@ -5,8 +5,8 @@ use Rattle.sff_format.proofs.Answers.{tests}
 use Rattle.sff_format.proofs.HeaderLaws.{fits-31}
 use Rattle.sff_format.proofs.Steps.{past-fits}
 use borrow.Author.Needs.{needs}
-use Rattle.sff.proofs.reader.step_test.Statement.{statement}
-use Rattle.sff.proofs.reader.step_test.Tie as tie
+use Rattle.sff_reader.proofs.step_test.Statement.{statement}
+use Rattle.sff_reader.proofs.step_test.Tie as tie
 
 returns : tie.Need-returns
 unfolding stepTest _then_

@@ -1,10 +1,10 @@
 use mathlib.Core.Path.{_∙_}
 use native.Mathlib.Omega.{arith}
 use Rattle.sff_format.proofs.Inserted.{first-least}
-use Rattle.sff.proofs.Reading.{insert-none, insert-some}
+use Rattle.sff_view.proofs.Inserts.{insert-none, insert-some}
 use borrow.Author.Needs.{needs}
-use Rattle.sff.proofs.view.insert.Statement.{statement}
-use Rattle.sff.proofs.view.insert.Tie as tie
+use Rattle.sff_view.proofs.insert.Statement.{statement}
+use Rattle.sff_view.proofs.insert.Tie as tie
 
 pub insert-spec : {M : Type 1} → statement M
 insert-spec =

@@ -1,8 +1,8 @@
 use mathlib.Core.Path.{sym, _∙_}
 use Rattle.sff_format.proofs.Steps.{step-stop}
 use borrow.Author.Needs.{needs}
-use Rattle.sff.proofs.reader.Reader.step.Statement.{statement}
-use Rattle.sff.proofs.reader.Reader.step.Tie as tie
+use Rattle.sff_reader.proofs.Reader.step.Statement.{statement}
+use Rattle.sff_reader.proofs.Reader.step.Tie as tie
 
 pub step-spec : {M : Type 1} → statement M
 step-spec =

@@ -3,8 +3,8 @@ use Rattle.sff_format.specs.Step.{freshPlace}
 use Rattle.sff_format.proofs.HeaderLaws.{fits-31}
 use Rattle.sff_header.proofs.Fields.{length-of}
 use borrow.Author.Needs.{needs}
-use Rattle.sff.proofs.reader.fresh_place.Statement.{statement}
-use Rattle.sff.proofs.reader.fresh_place.Tie as tie
+use Rattle.sff_reader.proofs.fresh_place.Statement.{statement}
+use Rattle.sff_reader.proofs.fresh_place.Tie as tie
 
 returns : tie.Need-returns
 unfolding freshPlace

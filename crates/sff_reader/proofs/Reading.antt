@@ -1,14 +1,12 @@
 -- A step: what its tests tell where they accept, and what is answered then. Assumes nothing.
-use Prim.Native.Nat.{ℕ, suc, _+_, _-_, _≤_, _<_}
+use Prim.Native.Nat.{ℕ, _+_, _≤_, _<_}
 use mathlib.Core.Path.{_≡_, refl, sym, ap, _∙_}
 use mathlib.Core.Bool.{Bool, true, false, cond}
-use mathlib.Core.List.{List, []}
+use mathlib.Core.List.{List}
 use native.Mathlib.Omega.{arith}
 use lib.ListN.{length}
 use lib.Dec.{ltb}
 use borrow.Author.Tests.{ltb-true}
-use Rattle.octets.specs.Parts.{wholePart}
-use Rattle.octets.proofs.Lists.{whole-none}
 use Rattle.sff_format.specs.declared.Answer.{Answer}
 use Rattle.sff_format.specs.declared.Answer.the-variants.{Accepted, Refused}
 use Rattle.sff_format.specs.declared.ReadView.{ReadView}
@@ -17,7 +15,7 @@ use Rattle.sff_format.specs.HeaderTest.{headerTest, readCount, flows, flowChara
 use Rattle.sff_format.specs.ReadTest.{readTest, readEnd}
 use Rattle.sff_format.specs.FileTest.{indexTest, endTest}
 use Rattle.sff_format.specs.Step.{State, readOrNone, stepTest, boundary, indexPassed, moved, found, step}
-use Rattle.sff_format.specs.View.{viewAt, bytesIn, viewFirst, viewLast, insertIn}
+use Rattle.sff_format.specs.View.{viewAt}
 use Rattle.sff_format.proofs.Answers.{not-accepted, first-ok, second-ok, under-ok}
 use Rattle.sff_format.proofs.Steps.{past-fits, step-found}
 
@@ -55,17 +53,3 @@ module _ (b : List ℕ) (s : State) (e : stepTest b s ≡ Accepted) where
   pub found-is : (F p x : ℕ) (q : Bool) (v : ReadView) → F ≡ flows b → p ≡ boundary b s → q ≡ indexPassed b s → x ≡ readEnd F b p → v ≡ viewAt F b p
       → found v (record { place = x; passed-reads = s .passed-reads + 1; passed-index = q }) ≡ step b s
   found-is F p x q v f g h i j = rw (j, i, h, g, f) (sym (step-found b s e))
-
--- the insert of a view, by its first and last base as the code has them
-pub insert-none : (b : List ℕ) (v : ReadView) (first last : ℕ) → first ≡ viewFirst v → last ≡ viewLast v → last < first → [] ≡ insertIn b v
-unfolding insertIn
-insert-none b v first last f l h =
-    let n : suc last - first ≡ 0 = omega arith in
-    sym (rw (← f, ← l, n) (whole-none (first - 1) (bytesIn b (v .bases))))
-
-pub insert-some : (b : List ℕ) (v : ReadView) (first last : ℕ) → first ≡ viewFirst v → last ≡ viewLast v → 1 ≤ first → first ≤ last
-    → wholePart (first - 1) (last - (first - 1)) (bytesIn b (v .bases)) ≡ insertIn b v
-unfolding insertIn
-insert-some b v first last f l o h =
-    let n : suc last - first ≡ last - (first - 1) = omega arith in
-    rw (← f, ← l, n)

@@ -2,10 +2,10 @@ use Rattle.sff_format.specs.Answer.{_then_}
 use Rattle.sff_format.specs.Step.{readOrNone}
 use Rattle.sff_format.proofs.Answers.{tests}
 use Rattle.sff_header.proofs.Fields.{reads-of, flows-of}
 use Rattle.sff.proofs.Sections.{characters-fit}
 use borrow.Author.Needs.{needs}
-use Rattle.sff.proofs.reader.read_or_none.Statement.{statement}
-use Rattle.sff.proofs.reader.read_or_none.Tie as tie
+use Rattle.sff_reader.proofs.read_or_none.Statement.{statement}
+use Rattle.sff_reader.proofs.read_or_none.Tie as tie
 
 returns : tie.Need-returns
 unfolding readOrNone

@@ -1,7 +1,7 @@
 use Rattle.sff_format.specs.Step.{fresh}
 use borrow.Author.Needs.{needs}
-use Rattle.sff.proofs.reader.Reader.fresh.Statement.{statement}
-use Rattle.sff.proofs.reader.Reader.fresh.Tie as tie
+use Rattle.sff_reader.proofs.Reader.fresh.Statement.{statement}
+use Rattle.sff_reader.proofs.Reader.fresh.Tie as tie
 
 returns : tie.Need-returns
 unfolding fresh

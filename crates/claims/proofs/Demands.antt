@@ -13,12 +13,13 @@ use Rattle.sff_format.specs.HeaderTest.{readCount}
 use Rattle.sff_format.specs.FileTest.{fileTest}
 use Rattle.sff_format.specs.Parse.{parse}
 use Rattle.sff_format.specs.Places.{readAt, place, readPlace}
+use Rattle.sff_format.specs.View.{viewRead}
 use Rattle.sff_format.specs.Step.{fresh, lastAnswer, viewsFound}
 use Rattle.sff_format.proofs.Format.{accepted, one-file}
 use Rattle.sff_format.proofs.FileLaid.{file-laid}
 use Rattle.sff_format.proofs.FileTaken.{file-back}
 use Rattle.sff_format.proofs.Places.{place-found, read-split}
-use Rattle.sff_format.proofs.Steps.{readOf, steps-end, reads-in-order, then-33}
+use Rattle.sff_format.proofs.Steps.{steps-end, reads-in-order, then-33}
 
 -- "A file is accepted exactly if it keeps the SFF rules": if it is the layout of a file that keeps them, which is then one alone
 pub accepted-exactly : (b : List ℕ) → (Bytes b × (fileTest b ≡ Accepted)) ↔ ((f : File) × Valid f × (layout f ≡ b))
@@ -42,8 +43,8 @@ pub split-at-read : (b : List ℕ) → Bytes b → fileTest b ≡ Accepted → (
     → b ≡ take (readPlace b i) b ++ (layoutRead (readAt (parse b) i) ++ drop (readPlace b i + length (layoutRead (readAt (parse b) i))) b)
 split-at-read = read-split
 
--- "From a fresh state an accepted file's reads come in order, each once, then 33; a refused file gives the whole-file test's refusal at last"
-pub read-in-order : (b : List ℕ) → fileTest b ≡ Accepted → map (readOf b) (viewsFound b (suc (readCount b)) (fresh b)) ≡ parse b .reads
+-- "From a fresh state an accepted file's reads come in order, each once, then 33; a refused file gives the whole-file test's refusal at last". A read is what is handed out of it
+pub read-in-order : (b : List ℕ) → fileTest b ≡ Accepted → Bytes b → map (viewRead b) (viewsFound b (suc (readCount b)) (fresh b)) ≡ parse b .reads
 read-in-order = reads-in-order
 
 pub then-none-left : (b : List ℕ) → fileTest b ≡ Accepted → lastAnswer b (suc (readCount b)) (fresh b) ≡ Refused 33 (length b)

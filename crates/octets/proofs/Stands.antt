@@ -54,9 +54,9 @@ stands-right p q xs ys b e h s =
     let t : part p (length xs) b ++ part (p + length xs) (length ys) b ≡ xs ++ ys = sym (part-two p (length xs) (length ys) b) ∙ rw length-append at s in
     rw e (sym (drop-at (part p (length xs) b) _ (length xs) l) ∙ ap (drop (length xs)) t ∙ drop-at xs ys (length xs) refl)
 
--- one list that stands at the start and takes all
-pub stands-all : (xs b : List ℕ) → length xs ≡ length b → Stands 0 xs b → xs ≡ b
-stands-all xs b e s = sym s ∙ rw e (take-length b)
+-- a list stands at its own start
+pub stands-self : (xs : List ℕ) → Stands 0 xs xs
+stands-self xs = take-length xs
 
 -- zeros
 zeros-run : (xs : List ℕ) → Every isZero xs → xs ≡ replicate (length xs) 0

@@ -7,21 +7,21 @@ use native.Mathlib.Omega.{arith}
 use lib.ListN.{length}
 use borrow.Author.Tests.{lt-ltb, le-ltb}
 use Rattle.octets.specs.Parts.{up8}
+use Rattle.octets.specs.Numbers.{Bytes}
 use Rattle.sff_format.specs.declared.Answer.{Answer}
 use Rattle.sff_format.specs.declared.Answer.the-variants.{Accepted, Refused}
-use Rattle.sff_format.specs.declared.ReadView.{ReadView}
 use Rattle.sff_format.specs.Answer.{when, _then_}
 use Rattle.sff_format.specs.Rules.{indexSize}
-use Rattle.sff_format.specs.Model.{Read}
 use Rattle.sff_format.specs.HeaderTest.{indexLength, headerTest, headerLength, flows, flowCharacters, readCount}
 use Rattle.sff_format.specs.ReadTest.{sectionLength, baseCount, readTest, dataTest, readEnd}
 use Rattle.sff_format.specs.FileTest.{indexHere, passTest, indexTest, pastIndex, nowPassed, endTest, boundaryTest, fileTest}
 use Rattle.sff_format.specs.Step.{State, found, stop, concluded, stepTest, readOrNone, moved, boundary, indexPassed, step, freshPlace, fresh, onStop, lastAnswer, onFound, viewsFound}
-use Rattle.sff_format.specs.View.{viewAt}
+use Rattle.sff_format.specs.View.{viewAt, viewRead}
 use Rattle.sff_format.specs.Parse.{parseRead, parseReads, parse}
 use Rattle.sff_format.proofs.Answers.{first-ok, second-ok, both-ok, under-ok, then-accepted, then-assoc, then-on}
 use Rattle.sff_format.proofs.HeaderLaws.{header-fits, characters-length}
 use Rattle.sff_format.proofs.Indexes.{pass-fits}
+use Rattle.sff_format.proofs.Views.{read-viewed}
 
 -- past an index that is not cut short the boundary is within the file
 pub past-fits : (b : List ℕ) (p : ℕ) (q : Bool) → p ≤ length b → indexTest b p q ≡ Accepted → pastIndex b p q ≤ length b
@@ -57,10 +57,6 @@ last-step b k s = go (stepTest b s)
 last-none : (b : List ℕ) (s : State) → lastAnswer b 0 s ≡ Accepted
 unfolding lastAnswer
 last-none b s = refl
-
--- the read that a view is of
-abbrev pub readOf : List ℕ → ReadView → Read
-readOf b v = parseRead (flows b) b (v .place)
 
 module _ (b : List ℕ) (head : headerTest b ≡ Accepted) where
   pub read-fits : (p : ℕ) → readTest (flowCharacters b) b p ≡ Accepted → readEnd (flows b) b p ≤ length b
@@ -120,16 +116,20 @@ module _ (b : List ℕ) (head : headerTest b ≡ Accepted) where
   unfolding boundaryTest
   accepted-read n s a = (first-ok _ _ a, first-ok _ _ (second-ok _ _ a), second-ok _ _ (second-ok _ _ a))
 
-  reads-found : (n : ℕ) (s : State) → s .passed-reads + n ≡ readCount b → s .place ≤ length b → boundaryTest b n (s .place) (s .passed-index) ≡ Accepted
-      → map (readOf b) (viewsFound b (suc n) s) ≡ parseReads b n (s .place) (s .passed-index)
-  unfolding viewsFound onFound parseReads viewAt _then_
-  reads-found zero s e l a =
+  -- with the file's own number of flows
+  viewed : Bytes b → (p : ℕ) → readTest (flowCharacters b) b p ≡ Accepted → viewRead b (viewAt (flows b) b p) ≡ parseRead (flows b) b p
+  viewed y p e = rw (characters-length b head) at (read-viewed (flowCharacters b) b p e y)
+
+  reads-found : Bytes b → (n : ℕ) (s : State) → s .passed-reads + n ≡ readCount b → s .place ≤ length b → boundaryTest b n (s .place) (s .passed-index) ≡ Accepted
+      → map (viewRead b) (viewsFound b (suc n) s) ≡ parseReads b n (s .place) (s .passed-index)
+  unfolding viewsFound onFound parseReads _then_
+  reads-found y zero s e l a =
       let t = accepted-none s a in
       rw (step-stop b s 33 (boundary b s) (test-none s l e ∙ rw (t .0, t .1)))
-  reads-found (suc n) s e l a =
+  reads-found y (suc n) s e l a =
       let t = accepted-read n s a in
       let r : readTest (flowCharacters b) b (boundary b s) ≡ Accepted = t .1 in
-      rw (step-found b s (test-read s l n e ∙ rw (t .0, r)), reads-found n (moved b s) (omega arith) (read-fits (boundary b s) r) (t .2))
+      rw (step-found b s (test-read s l n e ∙ rw (t .0, r)), viewed y (boundary b s) r, reads-found y n (moved b s) (omega arith) (read-fits (boundary b s) r) (t .2))
 
 -- from a fresh state: the whole-file test's refusal at last, or 33 at the file's end
 pub steps-end : (b : List ℕ) → lastAnswer b (suc (readCount b)) (fresh b) ≡ (fileTest b then Refused 33 (length b))
@@ -147,11 +147,11 @@ module _ (b : List ℕ) (e : fileTest b ≡ Accepted) where
   fresh-is = let h : headerTest b ≡ Accepted = first-ok _ _ e in rw h
 
   -- "From a fresh state an accepted file's reads come in order, each once"
-  pub reads-in-order : map (readOf b) (viewsFound b (suc (readCount b)) (fresh b)) ≡ parse b .reads
+  pub reads-in-order : Bytes b → map (viewRead b) (viewsFound b (suc (readCount b)) (fresh b)) ≡ parse b .reads
   unfolding fileTest parse
-  reads-in-order =
+  reads-in-order y =
       let h : headerTest b ≡ Accepted = first-ok _ _ e in
-      rw fresh-is (reads-found b h (readCount b) _ (omega arith) (header-fits b h) (second-ok _ _ e))
+      rw fresh-is (reads-found b h y (readCount b) _ (omega arith) (header-fits b h) (second-ok _ _ e))
 
   -- "then 33"
   pub then-33 : lastAnswer b (suc (readCount b)) (fresh b) ≡ Refused 33 (length b)

@@ -1,9 +1,12 @@
 -- What is said of a read in numbers: its place, where its contents lie, and its clips. Assumes nothing: these are definitions.
-use Prim.Native.Nat.{ℕ, suc, _+_, _-_, _*_}
+use Prim.Native.Nat.{ℕ, suc, _+_, _-_, _*_, _/_}
 use mathlib.Core.List.{List}
+use lib.ListN.{length}
 use Rattle.octets.specs.Parts.{wholePart}
+use Rattle.octets.specs.Numbers.{wordsAt}
 use Rattle.sff_format.specs.declared.Stretch.{Stretch}
 use Rattle.sff_format.specs.declared.ReadView.{ReadView}
+use Rattle.sff_format.specs.Model.{Read}
 use Rattle.sff_format.specs.ReadTest.{sectionLength, nameLength, baseCount, qualityLeft, qualityRight, adapterLeft, adapterRight}
 use Rattle.sff_format.specs.Insert.{firstBase, lastBase}
 
@@ -28,6 +31,20 @@ viewAt F b p =
 -- a stretch of the file, none of it where it does not lie in the file whole
 abbrev pub bytesIn : List ℕ → Stretch → List ℕ
 bytesIn b x = wholePart (x .at) (x .size) b
+
+-- the read as it is handed out: each list from the bytes of its stretch, the values two bytes each
+unfoldable pub viewRead : List ℕ → ReadView → Read
+viewRead b v = record {
+  name = bytesIn b (v .name);
+  quality-left = v .«quality_left»;
+  quality-right = v .«quality_right»;
+  adapter-left = v .«adapter_left»;
+  adapter-right = v .«adapter_right»;
+  values = wordsAt (length (bytesIn b (v .values)) / 2) 0 (bytesIn b (v .values));
+  increments = bytesIn b (v .increments);
+  bases = bytesIn b (v .bases);
+  qualities = bytesIn b (v .qualities);
+}
 
 -- the first and the last base of its insert, and the insert's bases
 abbrev pub viewFirst : ReadView → ℕ

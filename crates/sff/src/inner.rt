@@ -6,8 +6,8 @@ ghost use Rattle.sff_format.specs.FileTest.{indexDue, passTest, pastIndex, nowP
 ghost use Rattle.sff_header.specs.Header.{headerOf, Small};
 use sff_format::Answer;
 use sff_header::Header;
-use sff_header::index_size;
-use sff_header::is_declared;
+use sff_header::inner::index_size;
+use sff_header::inner::is_declared;
 
 // Whether an index is declared at the boundary `place` and not yet passed.
 pub fn index_due(header: Header, place: usize, passed: bool) -> bool

@@ -14,8 +14,8 @@ use crate::inner::pass_test;
 use sff_format::Answer;
 use sff_header::Header;
 use sff_header::header_test;
-use sff_header::index_size;
 use sff_header::inner::header_fields;
+use sff_header::inner::index_size;
 use sff_read::inner::read_end;
 use sff_read::inner::read_test;
 

@@ -9,7 +9,7 @@ use Rattle.sff_format.specs.Model.{Read}
 
 -- "First = max(1, both lefts)"
 unfoldable pub firstBase : ℕ → ℕ → ℕ
-firstBase ql al = max 1 (max ql al)
+firstBase quality-left adapter-left = max 1 (max quality-left adapter-left)
 
 -- "a 0 read as N"
 unfoldable pub rightEnd : ℕ → ℕ → ℕ
@@ -17,7 +17,7 @@ rightEnd n clip = cond (eqb clip 0) n clip
 
 -- "Last = min over both rights"
 unfoldable pub lastBase : ℕ → ℕ → ℕ → ℕ
-lastBase n qr ar = min (rightEnd n qr) (rightEnd n ar)
+lastBase n quality-right adapter-right = min (rightEnd n quality-right) (rightEnd n adapter-right)
 
 abbrev pub insertFirst : Read → ℕ
 insertFirst r = firstBase (r .quality-left) (r .adapter-left)

@@ -45,11 +45,11 @@ nameTest b p s L =
 
 -- 9: the clips of a read of n bases, in file order
 unfoldable pub clipTest : ℕ → ℕ → ℕ → ℕ → ℕ → ℕ → Answer
-clipTest p n ql qr al ar =
-    when (ltb (leftLimit n) ql) 9 (p + 8)
-    then when (ltb (rightLimit n) qr) 9 (p + 10)
-    then when (ltb (leftLimit n) al) 9 (p + 12)
-    then when (ltb (rightLimit n) ar) 9 (p + 14)
+clipTest p n quality-left quality-right adapter-left adapter-right =
+    when (ltb (leftLimit n) quality-left) 9 (p + 8)
+    then when (ltb (rightLimit n) quality-right) 9 (p + 10)
+    then when (ltb (leftLimit n) adapter-left) 9 (p + 12)
+    then when (ltb (rightLimit n) adapter-right) 9 (p + 14)
 
 -- "The walk stops at the first base that breaks this": the place of its index byte among those from `from` to before `to`, or `to`
 unfoldable pub walk : ℕ → ℕ → ℕ → ℕ → List ℕ → ℕ

@@ -1,7 +1,8 @@
-// For this crate and those above it, which have seen that the file has the header's 31 bytes: so `header_fields` may ask for them.
+// For this crate and those above it, which have seen that the file has the header's 31 bytes: so `header_fields` may ask for them. And what an index may be.
 ghost use mathlib.Core.Path.{_≡_};
 ghost use Prim.Native.Nat.{_≤_};
 ghost use lib.ListN.{length};
+ghost use Rattle.sff_format.specs.Rules.{declared, indexSize};
 ghost use Rattle.sff_header.specs.Header.{headerOf, Small};
 use crate::Header;
 use octets::get16;
@@ -23,3 +24,19 @@ pub fn header_fields(s: &[u8]) -> Header
         flows: get16(s, 28),
     }
 }
+
+// Whether the header's two index fields say that there is an index.
+pub fn is_declared(offset: usize, length: usize) -> bool
+    ensures { λ r. ⌜ r ≡ declared offset length ⌝ }
+{
+    !((offset == 0) & (length == 0))
+}
+
+// The room that an index of a stated length occupies.
+pub fn index_size(length: usize) -> usize
+    ensures { λ r. ⌜ r ≡ indexSize length ⌝ }
+{
+    length
+}
+
+// Whether no index may have this length.

@@ -3,12 +3,13 @@ ghost use mathlib.Core.Path.{_≡_};
 ghost use Prim.Native.Nat.{_+_, _≤_};
 ghost use lib.ListN.{length};
 ghost use Rattle.octets.specs.Parts.{up8};
-ghost use Rattle.sff_format.specs.Rules.{declared, badIndexLength, badIndex, indexSize};
+ghost use Rattle.sff_format.specs.Rules.{badIndexLength, badIndex};
 ghost use Rattle.sff_format.specs.HeaderTest.{fixedTest, charactersTest, headerTest};
 ghost use Rattle.sff_header.specs.Header.{headerOf, Small};
 
 pub mod inner;
 
+use crate::inner::is_declared;
 use octets::ByteTest;
 use octets::first_not;
 use octets::get32;
@@ -24,21 +25,6 @@ pub struct Header {
     pub flows: usize,
 }
 
-// Whether the header's two index fields say that there is an index.
-pub fn is_declared(offset: usize, length: usize) -> bool
-    ensures { λ r. ⌜ r ≡ declared offset length ⌝ }
-{
-    !((offset == 0) & (length == 0))
-}
-
-// The room that an index of a stated length occupies.
-pub fn index_size(length: usize) -> usize
-    ensures { λ r. ⌜ r ≡ indexSize length ⌝ }
-{
-    length
-}
-
-// Whether no index may have this length.
 fn bad_index_length(length: usize) -> bool
     ensures { λ r. ⌜ r ≡ badIndexLength length ⌝ }
 {

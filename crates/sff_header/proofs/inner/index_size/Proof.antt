@@ -1,7 +1,7 @@
 use mathlib.Core.Path.{refl}
 use Rattle.sff_format.specs.Rules.{indexSize}
-use Rattle.sff_header.proofs.index_size.Statement.{statement}
-use Rattle.sff_header.proofs.index_size.Tie as tie
+use Rattle.sff_header.proofs.inner.index_size.Statement.{statement}
+use Rattle.sff_header.proofs.inner.index_size.Tie as tie
 
 returns : tie.Need-returns
 unfolding indexSize

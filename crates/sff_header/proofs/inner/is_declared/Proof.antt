@@ -1,7 +1,7 @@
 use mathlib.Core.Path.{refl}
 use Rattle.sff_format.specs.Rules.{declared}
-use Rattle.sff_header.proofs.is_declared.Statement.{statement}
-use Rattle.sff_header.proofs.is_declared.Tie as tie
+use Rattle.sff_header.proofs.inner.is_declared.Statement.{statement}
+use Rattle.sff_header.proofs.inner.is_declared.Tie as tie
 
 returns : tie.Need-returns
 unfolding declared

@@ -1,17 +1,21 @@
+-- Tests and their chains, and the code's loops over them; how long layouts are.
 pub mod Answers
+pub mod Loops
 pub mod Sizes
+-- The header, a read, an index, a boundary: accepted, it is the layout of what it says; laid out, it is accepted and read back.
 pub mod HeaderLaws
 pub mod ReadLaid
 pub mod ReadTaken
-pub mod Boundaries
 pub mod Indexes
+pub mod Boundaries
+-- The same of a whole file, and that its layout is bytes; `Format` puts them together.
 pub mod FileLaid
 pub mod FileTaken
 pub mod Written
 pub mod Format
-pub mod Loops
+-- A file at a read; what is handed out of a read, and its insert; reading on.
 pub mod Split
 pub mod Places
-pub mod Steps
 pub mod Views
 pub mod Inserted
+pub mod Steps

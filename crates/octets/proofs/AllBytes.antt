@@ -37,11 +37,11 @@ bytes-drop zero l a = a
 bytes-drop (suc n) [] a = tt
 bytes-drop (suc n) (x ∷ l) a = bytes-drop n l (a .1)
 
-pub bytes-zeros : (n : ℕ) → Bytes (replicate n 0)
+bytes-zeros : (n : ℕ) → Bytes (replicate n 0)
 bytes-zeros zero = tt
 bytes-zeros (suc n) = (omega arith, bytes-zeros n)
 
-pub bytes-bytesOf : (k v : ℕ) → Bytes (bytesOf k v)
+bytes-bytesOf : (k v : ℕ) → Bytes (bytesOf k v)
 unfolding bytesOf
 bytes-bytesOf zero v = tt
 bytes-bytesOf (suc k) v = (mod-lt (v / 256 ^ k) (omega arith), bytes-bytesOf k v)

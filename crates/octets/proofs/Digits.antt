@@ -23,7 +23,7 @@ pos : (k : ℕ) → 0 < 256 ^ k
 pos k = one-le-pow k 256 (omega arith)
 
 -- what the digits xs spell after a
-pub bigEndian-from : (a : ℕ) (xs : List ℕ) → bigEndianFrom a xs ≡ a * 256 ^ length xs + bigEndian xs
+bigEndian-from : (a : ℕ) (xs : List ℕ) → bigEndianFrom a xs ≡ a * 256 ^ length xs + bigEndian xs
 unfolding bigEndianFrom
 bigEndian-from a [] = rw pow-zero (omega arith)
 bigEndian-from a (x ∷ xs) = rw (bigEndian-from (a * 256 + x) xs, bigEndian-from (0 * 256 + x) xs, pow-succ') (omega arith)
@@ -39,7 +39,7 @@ bytesOf-from zero a v = rw (pow-zero, mod-one) (omega arith)
 bytesOf-from (suc k) a v = rw (bytesOf-from k (a * 256 + v / 256 ^ k % 256) v, pow-succ', mod-mul v {m = 256} (omega arith) (pos k)) (omega arith)
 
 -- the number that v's k low bytes spell
-pub bigEndian-bytesOf : (k v : ℕ) → bigEndian (bytesOf k v) ≡ v % 256 ^ k
+bigEndian-bytesOf : (k v : ℕ) → bigEndian (bytesOf k v) ≡ v % 256 ^ k
 bigEndian-bytesOf k v = bytesOf-from k 0 v ∙ omega arith
 
 -- a number that fits k bytes is what they spell
@@ -54,12 +54,12 @@ bytesOf-bigEndian (x ∷ xs) b a =
     rw (bytesOf-bigEndian xs (b .1) (a * 256 + x), bigEndian-from (a * 256 + x) xs, digits-div (a * 256 + x) (bigEndian-small xs (b .1)), digits-mod a (b .0))
 
 -- the numbers that two lists of bytes spell make up that of both
-pub bigEndian-append : (a : ℕ) (xs ys : List ℕ) → bigEndianFrom a (xs ++ ys) ≡ bigEndianFrom (bigEndianFrom a xs) ys
+bigEndian-append : (a : ℕ) (xs ys : List ℕ) → bigEndianFrom a (xs ++ ys) ≡ bigEndianFrom (bigEndianFrom a xs) ys
 unfolding bigEndianFrom
 bigEndian-append a [] ys = refl
 bigEndian-append a (x ∷ xs) ys = bigEndian-append (a * 256 + x) xs ys
 
-pub bigEndian-both : (xs ys : List ℕ) → bigEndian (xs ++ ys) ≡ bigEndian xs * 256 ^ length ys + bigEndian ys
+bigEndian-both : (xs ys : List ℕ) → bigEndian (xs ++ ys) ≡ bigEndian xs * 256 ^ length ys + bigEndian ys
 bigEndian-both xs ys = bigEndian-append 0 xs ys ∙ bigEndian-from (bigEndian xs) ys
 
 -- the number at a place, in a high and a low part
@@ -82,7 +82,7 @@ number-four at l h =
     omega (arith, number-split at 2 2 l h, number-two at l (omega arith), rw e at (number-two (at + 2) l (omega arith)))
 
 -- the k low bytes of v are those of what v leaves at 256 ^ k
-pub bytesOf-mod : (k v : ℕ) → bytesOf k (v % 256 ^ k) ≡ bytesOf k v
+bytesOf-mod : (k v : ℕ) → bytesOf k (v % 256 ^ k) ≡ bytesOf k v
 unfolding bytesOf
 bytesOf-mod zero v = refl
 bytesOf-mod (suc k) v =
@@ -92,7 +92,7 @@ bytesOf-mod (suc k) v =
     rw (← bytesOf-mod k (v % 256 ^ suc k), low, high, mod-mod, bytesOf-mod k v)
 
 -- the bytes of v in a high and a low part
-pub bytesOf-split : (j k v : ℕ) → bytesOf (j + k) v ≡ bytesOf j (v / 256 ^ k) ++ bytesOf k (v % 256 ^ k)
+bytesOf-split : (j k v : ℕ) → bytesOf (j + k) v ≡ bytesOf j (v / 256 ^ k) ++ bytesOf k (v % 256 ^ k)
 unfolding bytesOf
 bytesOf-split zero k v = rw (zero-add, bytesOf-mod)
 bytesOf-split (suc j) k v = rw (suc-add, bytesOf-split j k v, div-div-eq-div-mul, ← pow-add, add-comm)

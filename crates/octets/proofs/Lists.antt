@@ -76,11 +76,6 @@ put-put at xs ys l h =
 pub put-next : (at n : ℕ) (xs ys l : List ℕ) → length xs ≡ n → at + n ≤ length l → putAt (at + n) ys (putAt at xs l) ≡ putAt at (xs ++ ys) l
 put-next at n xs ys l e h = rw (← e) (put-put at xs ys l (rw e h))
 
--- what a slice is when a part of k elements from `at` on that was lent as `&mut` has come back as ys: what the goal calls `putMid at k l ys`
-pub put-mid : (at k : ℕ) (l ys : List ℕ) → length ys ≡ k → take at l ++ (ys ++ drop k (drop at l)) ≡ putAt at ys l
-unfolding putAt
-put-mid at k l ys e = rw (← append-assoc, drop-drop, e)
-
 -- what is put right before what was put
 pub put-before : (at n : ℕ) (xs ys l : List ℕ) → length xs ≡ n → at + n ≤ length l → putAt at xs (putAt (at + n) ys l) ≡ putAt at (xs ++ ys) l
 unfolding putAt

@@ -54,7 +54,7 @@ module _ {at n : ℕ} {xs s₀ s : List ℕ} {j : ℕ} where
   up-done u h = let all : take j xs ≡ xs = take-all j xs (omega arith) in cc
 
   -- what stands past what was put is as it was
-  pub up-rest : Up at n xs s₀ s j → (i : ℕ) → at + j ≤ i → getD s i 0 ≡ getD s₀ i 0
+  up-rest : Up at n xs s₀ s j → (i : ℕ) → at + j ≤ i → getD s i 0 ≡ getD s₀ i 0
   up-rest u i h =
       let len : length (take j xs) ≡ j = length-take-le j xs (omega arith) in
       rw (u .is) (getD-after at (take j xs) s₀ i (rw len h) (omega arith))
@@ -75,7 +75,7 @@ module _ {at n : ℕ} {xs s₀ s : List ℕ} {j : ℕ} where
   down-done u h = let none : j ≡ 0 = omega arith in cc (add-zero at)
 
   -- what stands before what was put is as it was
-  pub down-rest : Down at n xs s₀ s j → (i : ℕ) → i < at + j → getD s i 0 ≡ getD s₀ i 0
+  down-rest : Down at n xs s₀ s j → (i : ℕ) → i < at + j → getD s i 0 ≡ getD s₀ i 0
   down-rest u i h = rw (u .is) (getD-before (at + j) (drop j xs) s₀ i h (omega arith))
 
 -- what a turn stores, as `up-more` and `down-more` ask for it: one value, or an element of the list itself

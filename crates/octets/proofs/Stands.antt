@@ -22,9 +22,6 @@ read-stands p n b h = rw (length-part p n b h)
 pub stands-read : (p n : ℕ) (xs b : List ℕ) → length xs ≡ n → Stands p xs b → part p n b ≡ xs
 stands-read p n xs b e s = rw (← e) s
 
-pub stands-nil : (p : ℕ) (b : List ℕ) → Stands p [] b
-stands-nil p b = refl
-
 -- part in two
 pub part-two : (p n m : ℕ) (b : List ℕ) → part p (n + m) b ≡ part p n b ++ part (p + n) m b
 part-two p n m b = take-add n m (drop p b) ∙ ap (λ (l : List ℕ). take n (drop p b) ++ take m l) (drop-drop n p b)
@@ -78,13 +75,13 @@ run-zeros zero = refl
 run-zeros (suc n) = ap suc (run-zeros n)
 
 -- n bytes that are zero, as a scan says it and as they are laid out
-pub zeros-stand : (p n : ℕ) (b : List ℕ) → p + n ≤ length b → Every isZero (part p n b) → Stands p (replicate n 0) b
+zeros-stand : (p n : ℕ) (b : List ℕ) → p + n ≤ length b → Every isZero (part p n b) → Stands p (replicate n 0) b
 zeros-stand p n b h e =
     let l : length (part p n b) ≡ n = length-part p n b h in
     let z : part p n b ≡ replicate n 0 = zeros-run (part p n b) e ∙ ap (λ (k : ℕ). replicate k 0) l in
     rw (length-replicate, z)
 
-pub stand-zeros : (p n : ℕ) (b : List ℕ) → Stands p (replicate n 0) b → Every isZero (part p n b)
+stand-zeros : (p n : ℕ) (b : List ℕ) → Stands p (replicate n 0) b → Every isZero (part p n b)
 stand-zeros p n b s = rw (stands-read p n (replicate n 0) b (length-replicate n 0) s) (run-zeros n)
 
 -- what is filled up with zeros

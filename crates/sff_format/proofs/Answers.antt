@@ -76,12 +76,12 @@ pub ok-same : (x y n p : ℕ) → x ≡ y → when (not (eqb x y)) n p ≡ Accep
 ok-same x y n p e = ok-when _ n p (ap not (eq-eqb x y e))
 
 -- a run is at most the length
-pub walk-le : (F f : ℕ) (xs : List ℕ) → walkRun F f xs ≤ length xs
+walk-le : (F f : ℕ) (xs : List ℕ) → walkRun F f xs ≤ length xs
 unfolding walkRun
 walk-le F f [] = omega arith
 walk-le F f (x ∷ xs) = more-le (isFlow F (f + x)) _ _ (walk-le F (f + x) xs)
 
-pub call-le : (characters : List ℕ) (f : ℕ) (xs ys : List ℕ) → callRun characters f xs ys ≤ length ys
+call-le : (characters : List ℕ) (f : ℕ) (xs ys : List ℕ) → callRun characters f xs ys ≤ length ys
 unfolding callRun
 call-le characters f [] ys = omega arith
 call-le characters f (x ∷ xs) [] = omega arith

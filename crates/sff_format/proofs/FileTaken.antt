@@ -89,7 +89,7 @@ module _ (b : List ℕ) (head : headerTest b ≡ Accepted) where
         let z : indexOffset b - p ≡ 0 = omega arith in
         rw (← m) (pending-here rs v (omega arith) (rw m (e ∙ rw (z, insert-zero))))
 
-    pub pending-taken : (k : ℕ) (rs : List Read) (p : ℕ) → indexOffset b ≡ p + length (layoutReads (take k rs)) → ValidReads (flowCharacters b) rs → p ≤ length b
+    pending-taken : (k : ℕ) (rs : List Read) (p : ℕ) → indexOffset b ≡ p + length (layoutReads (take k rs)) → ValidReads (flowCharacters b) rs → p ≤ length b
         → drop p b ≡ insertAt (indexOffset b - p) (layoutIndex x) (layoutReads rs) → Taken p false rs
     unfolding layoutReads
     pending-taken zero rs p m v l e = here rs p (omega arith) v l e
@@ -196,11 +196,11 @@ module _ (f : File) (v : Valid f) where
       both-ok _ _ (header-ok t refl)
       (rw (count-is (layout f) f v stands, size-is t refl) (sections t refl .0))
 
-  pub index-stands : Stands (f .index .offset) (layoutIndex (f .index)) (layout f)
+  index-stands : Stands (f .index .offset) (layoutIndex (f .index)) (layout f)
   unfolding layout t
   index-stands = insert-stands (f .index .offset) (layoutIndex (f .index)) (layoutHeader f ++ layoutReads (f .reads)) (shape t refl .inside)
 
-  pub offset-in : f .index .offset ≤ length (layout f)
+  offset-in : f .index .offset ≤ length (layout f)
   unfolding layout t
   offset-in =
       let i = shape t refl .inside in

@@ -149,11 +149,11 @@ module _ (b : List ℕ) (f : File) (v : Valid f) (s : Stands 0 (layoutHeader f) 
   unfolding headerFields
   header-length-is = numbers .1 .1 .1 .1 .1 .0
 
-  pub key-length-is : keyLength b ≡ length (f .key)
+  key-length-is : keyLength b ≡ length (f .key)
   unfolding headerFields
   key-length-is = numbers .1 .1 .1 .1 .1 .1 .0
 
-  pub flows-is : flows b ≡ length (f .flow-characters)
+  flows-is : flows b ≡ length (f .flow-characters)
   unfolding headerFields
   flows-is = numbers .1 .1 .1 .1 .1 .1 .1 .0
 

@@ -17,7 +17,7 @@ use Rattle.sff_format.specs.Places.{noRead, readAt, place}
 use Rattle.sff_format.proofs.Boundaries.{undeclared}
 use Rattle.sff_format.proofs.FileTaken.{front-le, read-some}
 
-pub reads-append : (us ws : List Read) → layoutReads (us ++ ws) ≡ layoutReads us ++ layoutReads ws
+reads-append : (us ws : List Read) → layoutReads (us ++ ws) ≡ layoutReads us ++ layoutReads ws
 unfolding layoutReads
 reads-append [] ws = refl
 reads-append (u ∷ us) ws = rw (reads-append us ws, append-assoc)

@@ -26,7 +26,7 @@ module _ (characters b : List ℕ) (p : ℕ) (e : readTest characters b p ≡ Ac
   data-in : (q n : ℕ) → q + n ≤ p + sectionLength b p + (2 * length characters + 3 * baseCount b p) → wholePart q n b ≡ part q n b
   data-in q n h = let f = data-fits characters b p e in whole-in q n b (omega arith)
 
-  pub increments-viewed : bytesIn b (viewAt (length characters) b p .increments) ≡ parseRead (length characters) b p .increments
+  increments-viewed : bytesIn b (viewAt (length characters) b p .increments) ≡ parseRead (length characters) b p .increments
   unfolding viewAt parseRead
   increments-viewed = data-in _ _ (omega arith)
 
@@ -34,7 +34,7 @@ module _ (characters b : List ℕ) (p : ℕ) (e : readTest characters b p ≡ Ac
   unfolding viewAt parseRead
   bases-viewed = data-in _ _ (omega arith)
 
-  pub qualities-viewed : bytesIn b (viewAt (length characters) b p .qualities) ≡ parseRead (length characters) b p .qualities
+  qualities-viewed : bytesIn b (viewAt (length characters) b p .qualities) ≡ parseRead (length characters) b p .qualities
   unfolding viewAt parseRead
   qualities-viewed = data-in _ _ (omega arith)
 

@@ -7,7 +7,6 @@ ghost use Rattle.sff_format.specs.Rules.{leftLimit, rightLimit};
 ghost use Rattle.sff_format.specs.ReadTest.{nameTest, clipTest, dataTest, readTest, readEnd};
 ghost use Rattle.sff_format.specs.View.{viewAt};
 ghost use Rattle.sff_read.specs.Fields.{FieldsAt};
-use crate::BasePosition;
 use octets::ByteTest;
 use octets::first_not;
 use octets::get16;
@@ -15,10 +14,8 @@ use octets::get32;
 use sff_format::Answer;
 use sff_format::ReadView;
 use sff_format::Stretch;
-
-mod walk;
-
-use crate::inner::walk::bases_test;
+use sff_walk::BasePosition;
+use sff_walk::inner::bases_test;
 
 // The fields of a read's header section.
 struct ReadFields {

@@ -1,45 +1,11 @@
-// A read's tests, where it ends and what it says; and the positions of bases and flows.
+// A read's tests, where it ends and what it says, and its clips.
 ghost use mathlib.Core.Path.{_≡_};
-ghost use Prim.Native.Nat.{_+_, _<_, max, min};
-ghost use Rattle.sff_format.specs.Rules.{isFlow};
+ghost use Prim.Native.Nat.{max, min};
 ghost use Rattle.sff_format.specs.Insert.{firstBase, rightEnd, lastBase};
-use octets::wide;
 use sff_format::ReadView;
+use sff_walk::BasePosition;
 
 pub mod inner;
-
-// Positions over a read's bases and over a file's flows. Both count from 1; neither is ever made from the other.
-
-// A base of a read; 0 is before the first, and as a clip "not computed".
-pub struct BasePosition(pub usize);
-
-// A flow of a file; 0 is before the first.
-pub struct FlowPosition(pub usize);
-
-impl BasePosition {
-    fn next(self) -> Self
-        requires { ⌜ self .0 < 4294967296 ⌝ }
-        ensures { λ r. ⌜ r .0 ≡ self .0 + 1 ⌝ }
-    {
-        BasePosition(self.0 + 1)
-    }
-}
-
-impl FlowPosition {
-    // The flow position of the next base: index bytes are increments.
-    fn after(self, increment: u8) -> Self
-        requires { ⌜ self .0 < 65536 ⌝ }
-        ensures { λ r. ⌜ r .0 ≡ self .0 + increment ⌝ }
-    {
-        FlowPosition(self.0 + wide(increment))
-    }
-
-    fn within(self, flows: usize) -> bool
-        ensures { λ r. ⌜ r ≡ isFlow flows (self .0) ⌝ }
-    {
-        (1 <= self.0) & (self.0 <= flows)
-    }
-}
 
 fn later(a: BasePosition, b: BasePosition) -> BasePosition
     ensures { λ r. ⌜ r .0 ≡ max (a .0) (b .0) ⌝ }

@@ -13,11 +13,11 @@ use Rattle.sff_format.specs.declared.ReadView.{ReadView}
 use Rattle.sff_format.specs.Answer.{_then_}
 use Rattle.sff_format.specs.HeaderTest.{headerTest, readCount, flows, flowCharacters}
 use Rattle.sff_format.specs.ReadTest.{readTest, readEnd}
-use Rattle.sff_format.specs.FileTest.{indexTest, endTest}
+use Rattle.sff_format.specs.FileTest.{endTest}
 use Rattle.sff_format.specs.Step.{State, readOrNone, stepTest, boundary, indexPassed, moved, found, step}
 use Rattle.sff_format.specs.View.{viewAt}
 use Rattle.sff_format.proofs.Answers.{not-accepted, first-ok, second-ok, under-ok}
-use Rattle.sff_format.proofs.Steps.{past-fits, step-found}
+use Rattle.sff_format.proofs.Steps.{step-found}
 
 module _ (b : List ℕ) (s : State) (e : stepTest b s ≡ Accepted) where
   pub header-accepted : headerTest b ≡ Accepted
@@ -27,10 +27,6 @@ module _ (b : List ℕ) (s : State) (e : stepTest b s ≡ Accepted) where
   pub place-inside : s .place ≤ length b
   unfolding stepTest
   place-inside = under-ok _ _ _ _ (first-ok _ _ (second-ok _ _ e))
-
-  pub boundary-inside : boundary b s ≤ length b
-  unfolding stepTest
-  boundary-inside = past-fits b (s .place) (s .passed-index) place-inside (first-ok _ _ (second-ok _ _ (second-ok _ _ e)))
 
   -- no end is accepted by a step: a read was
   read-accepted-or : (s .passed-reads < readCount b) × (readTest (flowCharacters b) b (boundary b s) ≡ Accepted)

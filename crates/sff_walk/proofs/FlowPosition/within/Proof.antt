@@ -1,7 +1,7 @@
 use borrow.Author.Needs.{needs}
 use Rattle.sff_format.specs.Rules.{isFlow}
-use Rattle.sff_read.proofs.FlowPosition.within.Statement.{statement}
-use Rattle.sff_read.proofs.FlowPosition.within.Tie as tie
+use Rattle.sff_walk.proofs.FlowPosition.within.Statement.{statement}
+use Rattle.sff_walk.proofs.FlowPosition.within.Tie as tie
 
 returns : tie.Need-returns
 unfolding isFlow

@@ -1,7 +1,7 @@
 use Prim.Native.Nat.{_+_, _-_}
-use Rattle.sff_read.proofs.Walk.{Walked, walking}
-use Rattle.sff_read.proofs.inner.walk.walk_stop.Statement.{statement}
-use Rattle.sff_read.proofs.inner.walk.walk_stop.Tie as tie
+use Rattle.sff_walk.proofs.Walk.{Walked, walking}
+use Rattle.sff_walk.proofs.inner.walk_stop.Statement.{statement}
+use Rattle.sff_walk.proofs.inner.walk_stop.Tie as tie
 
 abbrev Inv-loop : tie.InvT-loop
 Inv-loop s at bases base₀ flow₀ flows base flow = Walked flows (flow₀ .0) at (base₀ .0) bases s (base .0) (flow .0)

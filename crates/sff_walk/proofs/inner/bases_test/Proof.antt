@@ -3,9 +3,9 @@ use borrow.Author.Needs.{needs}
 use borrow.Author.Tests.{not-false}
 use mathlib.Core.Path.{sym, _∙_}
 use Prim.Native.Nat.{_+_, _-_}
-use Rattle.sff_read.proofs.Walk.{Matched, flow-in, matched-more, matching}
-use Rattle.sff_read.proofs.inner.walk.bases_test.Statement.{statement}
-use Rattle.sff_read.proofs.inner.walk.bases_test.Tie as tie
+use Rattle.sff_walk.proofs.Walk.{Matched, flow-in, matched-more, matching}
+use Rattle.sff_walk.proofs.inner.bases_test.Statement.{statement}
+use Rattle.sff_walk.proofs.inner.bases_test.Tie as tie
 
 abbrev Inv-loop : tie.InvT-loop
 Inv-loop s at bases flows base₀ flow₀ base flow = Matched flows at bases s (base .0) (flow .0)

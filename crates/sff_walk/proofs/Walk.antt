@@ -15,7 +15,7 @@ use Rattle.sff_format.specs.declared.Answer.the-variants.{Accepted, Refused}
 use Rattle.sff_format.specs.Answer.{when, stopped, _then_}
 use Rattle.sff_format.specs.Rules.{isFlow, isCall}
 use Rattle.sff_format.specs.ReadTest.{walk, calls, basesTest}
-use Rattle.sff_read.specs.Bases.{callAt, wrongBase}
+use Rattle.sff_walk.specs.Bases.{callAt, wrongBase}
 use Rattle.sff_format.proofs.Loops.{walk-end, walk-stop, walk-on, calls-end, calls-stop, calls-on, character-at}
 
 -- a flow position that keeps the rule has both bounds

@@ -1,7 +1,7 @@
-use Rattle.sff_read.proofs.Walk.{walking}
+use Rattle.sff_walk.proofs.Walk.{walking}
 use borrow.Author.Needs.{needs}
-use Rattle.sff_read.proofs.inner.walk.wrong_base.Statement.{statement}
-use Rattle.sff_read.proofs.inner.walk.wrong_base.Tie as tie
+use Rattle.sff_walk.proofs.inner.wrong_base.Statement.{statement}
+use Rattle.sff_walk.proofs.inner.wrong_base.Tie as tie
 
 pub wrong-base-spec : {M : Type 1} → statement M
 wrong-base-spec =

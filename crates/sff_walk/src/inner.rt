@@ -1,10 +1,10 @@
-// The flow walk and the bases.
+// The flow walk and the bases, for the crate above, which knows that they lie in the file: hence each `requires`.
 ghost use mathlib.Core.Path.{_≡_};
 ghost use Prim.Native.Nat.{_+_, _-_, _≤_, _<_};
 ghost use lib.ListN.{length};
 ghost use Rattle.octets.specs.Parts.{part};
 ghost use Rattle.sff_format.specs.ReadTest.{walk, basesTest};
-ghost use Rattle.sff_read.specs.Bases.{callAt, wrongBase};
+ghost use Rattle.sff_walk.specs.Bases.{callAt, wrongBase};
 use crate::BasePosition;
 use crate::FlowPosition;
 use sff_format::Answer;

@@ -15,12 +15,13 @@ use Rattle.sff_format.specs.ReadTest.{readTest, readEnd}
 use Rattle.sff_format.specs.FileTest.{indexTest, pastIndex, nowPassed, boundaryTest, fileTest}
 use Rattle.sff_format.specs.Parse.{parseRead, parseReads, parse}
 use Rattle.sff_format.specs.View.{viewAt, bytesIn, viewFirst, viewLast, insertIn}
-use Rattle.sff_format.proofs.Answers.{first-ok, second-ok}
 use Rattle.sff_format.proofs.HeaderLaws.{header-fits, characters-length}
+use Rattle.sff_format.proofs.Boundaries.{accepted-read}
+use Rattle.sff_format.proofs.FileLaid.{head-ok, sections-ok}
 use Rattle.sff_format.proofs.ReadLaid.{fits-16}
 use Rattle.sff_format.proofs.Views.{name-viewed}
 use Rattle.sff_format.proofs.Inserted.{size-viewed, first-viewed, last-viewed, insert-viewed}
-use Rattle.sff_format.proofs.Steps.{past-fits, read-fits}
+use Rattle.sff_format.proofs.Steps.{read-fits}
 use Rattle.text.specs.Writing.{Room, Wrote}
 use Rattle.text.proofs.Coming.{Coming, coming-start, coming-room, coming-put, coming-done}
 use Rattle.lines.specs.Lines.{readLine}
@@ -48,10 +49,15 @@ pub record Listing (b l₀ : List ℕ) (at i n p : ℕ) (q : Bool) (next : ℕ) 
 
 pub listing-start : (b l : List ℕ) (at : ℕ) → Bytes b → fileTest b ≡ Accepted → Room at (linesFrom 0 (parse b .reads)) l
     → Listing b l at 0 (readCount b) (headerLength b) false at l
-unfolding fileTest parse
-listing-start b l at y e r =
-    let h : headerTest b ≡ Accepted = first-ok _ _ e in
-    record { bytes = y; head = h; counted = omega arith; inside = header-fits b h; accepted = second-ok _ _ e; coming = coming-start r }
+unfolding parse
+listing-start b l at y e r = record {
+  bytes = y;
+  head = head-ok b e;
+  counted = omega arith;
+  inside = header-fits b (head-ok b e);
+  accepted = sections-ok b e;
+  coming = coming-start r;
+}
 
 module _ {b l₀ : List ℕ} {at i n p : ℕ} {q : Bool} {next : ℕ} {l : List ℕ} (g : Listing b l₀ at i n p q next l) where
   pub listing-done : n ≡ 0 → Wrote at (linesFrom 0 (parse b .reads)) l₀ l next
@@ -59,20 +65,12 @@ module _ {b l₀ : List ℕ} {at i n p : ℕ} {q : Bool} {next : ℕ} {l : List 
   listing-done z = coming-done (g .coming) (rw z)
 
   module _ (m : ℕ) (s : n ≡ suc m) where
-    accepted-here : boundaryTest b (suc m) p q ≡ Accepted
-    accepted-here = rw s at (g .accepted)
-
-    index-ok : indexTest b p q ≡ Accepted
-    unfolding boundaryTest
-    index-ok = first-ok _ _ accepted-here
+    turn : (indexTest b p q ≡ Accepted) × (readTest (flowCharacters b) b (pastIndex b p q) ≡ Accepted)
+        × (boundaryTest b m (readEnd (flows b) b (pastIndex b p q)) (nowPassed b p q) ≡ Accepted)
+    turn = accepted-read b m p q (rw s at (g .accepted))
 
     read-ok : readTest (flowCharacters b) b (pastIndex b p q) ≡ Accepted
-    unfolding boundaryTest
-    read-ok = first-ok _ _ (second-ok _ _ accepted-here)
-
-    rest-ok : boundaryTest b m (readEnd (flows b) b (pastIndex b p q)) (nowPassed b p q) ≡ Accepted
-    unfolding boundaryTest
-    rest-ok = second-ok _ _ (second-ok _ _ accepted-here)
+    read-ok = turn .1
 
     pub begins : pastIndex b p q + 16 ≤ length b
     begins = fits-16 (flowCharacters b) b (pastIndex b p q) read-ok
@@ -107,7 +105,7 @@ module _ {b l₀ : List ℕ} {at i n p : ℕ} {q : Bool} {next : ℕ} {l : List 
             head = g .head;
             counted = let c = g .counted in omega arith;
             inside = read-fits b (g .head) (pastIndex b p q) read-ok;
-            accepted = rest-ok;
+            accepted = turn .2;
             coming = coming-put (g .coming) (viewLine b i v) rest line-is u;
           }
           )

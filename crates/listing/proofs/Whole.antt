@@ -11,12 +11,11 @@ use Rattle.octets.specs.Parts.{putAt, wholePart}
 use Rattle.octets.specs.Numbers.{Bytes}
 use Rattle.octets.proofs.Lists.{whole-in}
 use Rattle.sff_format.specs.declared.Answer.the-variants.{Accepted, Refused}
-use Rattle.sff_format.specs.HeaderTest.{readCount, headerLength, keyLength, flows, flowCharacters, keyCharacters, headerTest}
+use Rattle.sff_format.specs.HeaderTest.{readCount, headerLength, keyLength, flows, keyCharacters}
 use Rattle.sff_format.specs.FileTest.{fileTest}
 use Rattle.sff_format.specs.Parse.{parse}
-use Rattle.sff_format.proofs.Answers.{first-ok}
 use Rattle.sff_format.proofs.HeaderLaws.{fits-31, header-fits, header-sized, characters-length}
-use Rattle.sff_format.proofs.FileLaid.{length-parsed}
+use Rattle.sff_format.proofs.FileLaid.{head-ok, length-parsed}
 use Rattle.text.specs.Writing.{Room, Wrote}
 use Rattle.text.proofs.Writing.{room, wrote-none, wrote-counts}
 use Rattle.lines.specs.Lines.{headerLine, refusalLine}
@@ -24,19 +23,15 @@ use Rattle.listing.specs.Listing.{linesFrom, fileLines, listed, listing,
 use Rattle.listing.proofs.Lengths.{listing-short}
 
 module _ (b : List ℕ) (e : fileTest b ≡ Accepted) where
-  head-accepted : headerTest b ≡ Accepted
-  unfolding fileTest
-  head-accepted = first-ok _ _ e
-
   pub header-whole : 31 ≤ length b
-  header-whole = fits-31 b head-accepted
+  header-whole = fits-31 b (head-ok b e)
 
   -- the lines of an accepted file, from its fields and its key as the code has them
   pub lines-are : (F K n : ℕ) (key : List ℕ) → F ≡ flows b → K ≡ keyLength b → n ≡ readCount b → key ≡ wholePart (31 + F) K b
       → fileLines (parse b) ≡ headerLine F key n ++ linesFrom 0 (parse b .reads)
   unfolding fileLines parse
   lines-are F K n key f k c w =
-      let h = head-accepted in
+      let h = head-ok b e in
       let s = header-sized b h in
       let l = header-fits b h in
       let i : wholePart (31 + flows b) (keyLength b) b ≡ keyCharacters b = whole-in (31 + flows b) (keyLength b) b (omega arith) in

@@ -12,6 +12,7 @@ use Rattle.sff_format.specs.Rules.{declared, indexSize}
 use Rattle.sff_format.specs.HeaderTest.{indexOffset, indexLength, flows, flowCharacters}
 use Rattle.sff_format.specs.ReadTest.{readTest, readEnd}
 use Rattle.sff_format.specs.FileTest.{indexDue, indexHere, passTest, indexTest, pastIndex, nowPassed, endTest, boundaryTest}
+use Rattle.sff_format.proofs.Answers.{first-ok, second-ok}
 use Rattle.sff_format.specs.Parse.{parseRead, parseReads}
 use Rattle.sff_format.specs.Places.{placeFrom}
 
@@ -58,6 +59,18 @@ here-not b p false n = rw (ne-eqb p (indexOffset b) n) (go (declared (indexOffse
 pub here-is : (b : List ℕ) (p : ℕ) → declared (indexOffset b) (indexLength b) ≡ true → p ≡ indexOffset b → indexHere b p false ≡ true
 unfolding indexDue
 here-is b p d e = rw (d, eq-eqb p (indexOffset b) e)
+
+-- what an accepted boundary tells, with no read left and with one
+pub accepted-none : (b : List ℕ) (p : ℕ) (q : Bool) → boundaryTest b 0 p q ≡ Accepted
+    → (indexTest b p q ≡ Accepted) × (endTest b (pastIndex b p q) (nowPassed b p q) ≡ Accepted)
+unfolding boundaryTest
+accepted-none b p q a = (first-ok _ _ a, second-ok _ _ a)
+
+pub accepted-read : (b : List ℕ) (n p : ℕ) (q : Bool) → boundaryTest b (suc n) p q ≡ Accepted
+    → (indexTest b p q ≡ Accepted) × (readTest (flowCharacters b) b (pastIndex b p q) ≡ Accepted)
+    × (boundaryTest b n (readEnd (flows b) b (pastIndex b p q)) (nowPassed b p q) ≡ Accepted)
+unfolding boundaryTest
+accepted-read b n p q a = (first-ok _ _ a, first-ok _ _ (second-ok _ _ a), second-ok _ _ (second-ok _ _ a))
 
 module _ (b : List ℕ) (p : ℕ) (q : Bool) where
   pub parse-none : parseReads b 0 p q ≡ []

@@ -155,15 +155,16 @@ module _ (b : List ℕ) (y : Bytes b) (head : headerTest b ≡ Accepted) where
             let g : indexHere b p false ≡ false = here-not b p false (eqb-false p (indexOffset b) h) in
             pending-read n p g l e (more (readEnd (flows b) b p) (here-next n p g l e) (second-ok _ _ (here-read n p g l e)))
 
+-- an accepted file's header and boundaries are accepted
+pub head-ok : (b : List ℕ) → fileTest b ≡ Accepted → headerTest b ≡ Accepted
+unfolding fileTest
+head-ok b e = first-ok _ _ e
+
+pub sections-ok : (b : List ℕ) → fileTest b ≡ Accepted → boundaryTest b (readCount b) (headerLength b) false ≡ Accepted
+unfolding fileTest
+sections-ok b e = second-ok _ _ e
+
 module _ (b : List ℕ) (y : Bytes b) (e : fileTest b ≡ Accepted) where
-  pub head-ok : headerTest b ≡ Accepted
-  unfolding fileTest
-  head-ok = first-ok _ _ e
-
-  pub sections-ok : boundaryTest b (readCount b) (headerLength b) false ≡ Accepted
-  unfolding fileTest
-  sections-ok = second-ok _ _ e
-
   rs : List Read
   rs = parseReads b (readCount b) (headerLength b) false
 
@@ -177,15 +178,15 @@ module _ (b : List ℕ) (y : Bytes b) (e : fileTest b ≡ Accepted) where
   pub header-size : length (layoutHeader (parse b)) ≡ headerLength b
   unfolding parse
   header-size =
-      let lc = characters-length b head-ok in
-      let lk = key-length b head-ok in
-      let s = header-sized b head-ok in
+      let lc = characters-length b (head-ok b e) in
+      let lk = key-length b (head-ok b e) in
+      let s = header-sized b (head-ok b e) in
       length-header (parse b) ∙ rw (lc, lk) (sym s)
 
   sections : (t : Bool) → declared (indexOffset b) (indexLength b) ≡ t → Sections
   unfolding rs
   sections true d =
-      let p = pending-laid b y head-ok d (readCount b) (headerLength b) (header-fits b head-ok) sections-ok in
+      let p = pending-laid b y (head-ok b e) d (readCount b) (headerLength b) (header-fits b (head-ok b e)) (sections-ok b e) in
       let m : indexOffset b ≡ headerLength b + length (layoutReads (take (p .k) rs)) = p .met in
       let s = header-size in
       let o : indexOffset b ≡ length (layoutHeader (parse b)) + (indexOffset b - headerLength b) = omega arith in
@@ -200,7 +201,7 @@ module _ (b : List ℕ) (y : Bytes b) (e : fileTest b ≡ Accepted) where
       let o : indexOffset b ≡ 0 = u .0 in
       let l : indexLength b ≡ 0 = u .1 in
       let done : Done b false = rw d in
-      let p = plain-laid b y head-ok (readCount b) (headerLength b) false done (header-fits b head-ok) sections-ok in
+      let p = plain-laid b y (head-ok b e) (readCount b) (headerLength b) false done (header-fits b (head-ok b e)) (sections-ok b e) in
       record {
         passed = index-taken b (indexOffset b) noIndex (sym l) (rw o (omega arith)) (rw layout-none);
         at = rw (o, l, layout-none, insert-zero) (rw (p .0));
@@ -217,7 +218,7 @@ module _ (b : List ℕ) (y : Bytes b) (e : fileTest b ≡ Accepted) where
   header-stands : Stands 0 (layoutHeader (parse b)) b
   unfolding parse
   header-stands =
-      header-laid b head-ok y (parse b) refl refl refl (index-length b (all .passed)) (length-parsed b (readCount b) (headerLength b) false)
+      header-laid b (head-ok b e) y (parse b) refl refl refl (index-length b (all .passed)) (length-parsed b (readCount b) (headerLength b) false)
 
   header-whole : layoutHeader (parse b) ++ drop (headerLength b) b ≡ b
   header-whole = rw (zero-add, header-size) at (stands-drop 0 (layoutHeader (parse b)) b header-stands)
@@ -230,18 +231,18 @@ module _ (b : List ℕ) (y : Bytes b) (e : fileTest b ≡ Accepted) where
   pub file-valid : Valid (parse b)
   unfolding parse rs
   file-valid =
-      let t = fits-31 b head-ok in
-      let lc : length (flowCharacters b) ≡ flows b = characters-length b head-ok in
-      let lk : length (part (31 + flows b) (keyLength b) b) ≡ keyLength b = key-length b head-ok in
+      let t = fits-31 b (head-ok b e) in
+      let lc : length (flowCharacters b) ≡ flows b = characters-length b (head-ok b e) in
+      let lk : length (part (31 + flows b) (keyLength b) b) ≡ keyLength b = key-length b (head-ok b e) in
       let li : length (part (indexOffset b) (indexLength b) b) ≡ indexLength b = index-length b (all .passed) in
-      let s = header-sized b head-ok in
+      let s = header-sized b (head-ok b e) in
       let z = header-size in
       record {
-        characters-good = characters-good b head-ok;
+        characters-good = characters-good b (head-ok b e);
         header-fits = rw (lc, lk, ← s) (number-small 2 24 b y (omega arith));
         count-fits = rw (length-parsed b (readCount b) (headerLength b) false) (number-small 4 20 b y (omega arith));
         index-fits = (number-small 8 8 b y (omega arith), rw li (number-small 4 16 b y (omega arith)), bytes-part (indexOffset b) (indexLength b) b y);
-        index-good = rw li (index-good b head-ok);
+        index-good = rw li (index-good b (head-ok b e));
         index-met = rw li (λ d. (all .met d .0, rw z (all .met d .1)));
         reads-good = all .good;
       }

@@ -19,3 +19,5 @@ pub mod Places
 pub mod Views
 pub mod Inserted
 pub mod Steps
+-- No refusal has the number 0.
+pub mod Refusals

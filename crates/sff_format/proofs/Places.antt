@@ -99,13 +99,13 @@ module _ (b : List ℕ) (y : Bytes b) (e : fileTest b ≡ Accepted) (i : ℕ) (h
   found : (t : Bool) → declared (indexOffset b) (indexLength b) ≡ t → (at : ℕ) → at ≡ headerLength b + length (layoutReads (take i (parseReads b (readCount b) (headerLength b) false)))
       → placeFrom b i (headerLength b) false ≡ at + cond (leb (indexOffset b) at) (indexSize (indexLength b)) 0
   unfolding shift
-  found true d at a = rw a (pending-place b y (head-ok b y e) d (readCount b) i (headerLength b) (header-fits b (head-ok b y e)) (sections-ok b y e) h)
+  found true d at a = rw a (pending-place b y (head-ok b e) d (readCount b) i (headerLength b) (header-fits b (head-ok b e)) (sections-ok b e) h)
   found false d at a =
       let u = undeclared (indexOffset b) (indexLength b) d in
       let l : indexLength b ≡ 0 = u .1 in
       let z : indexSize (indexLength b) ≡ 0 = ap indexSize l ∙ size-none in
       let done : Done b false = rw d in
-      rw (a, z, none (leb (indexOffset b) _), add-zero) (plain-place b y (head-ok b y e) (readCount b) i (headerLength b) false done (sections-ok b y e) h)
+      rw (a, z, none (leb (indexOffset b) _), add-zero) (plain-place b y (head-ok b e) (readCount b) i (headerLength b) false done (sections-ok b e) h)
     where
       none : (t : Bool) → _≡_ {A = ℕ} (cond t 0 0) 0
       none true = refl

@@ -6,21 +6,23 @@ use mathlib.Core.List.{List, [], _∷_, map}
 use native.Mathlib.Omega.{arith}
 use lib.ListN.{length}
 use borrow.Author.Tests.{lt-ltb, le-ltb}
-use Rattle.octets.specs.Parts.{up8}
 use Rattle.octets.specs.Numbers.{Bytes}
 use Rattle.sff_format.specs.declared.Answer.{Answer}
 use Rattle.sff_format.specs.declared.Answer.the-variants.{Accepted, Refused}
 use Rattle.sff_format.specs.Answer.{when, _then_}
 use Rattle.sff_format.specs.Rules.{indexSize}
 use Rattle.sff_format.specs.HeaderTest.{indexLength, headerTest, headerLength, flows, flowCharacters, readCount}
-use Rattle.sff_format.specs.ReadTest.{sectionLength, baseCount, readTest, dataTest, readEnd}
+use Rattle.sff_format.specs.ReadTest.{readTest, readEnd}
 use Rattle.sff_format.specs.FileTest.{indexHere, passTest, indexTest, pastIndex, nowPassed, endTest, boundaryTest, fileTest}
 use Rattle.sff_format.specs.Step.{State, found, stop, concluded, stepTest, readOrNone, moved, boundary, indexPassed, step, freshPlace, fresh, onStop, lastAnswer, onFound, viewsFound}
 use Rattle.sff_format.specs.View.{viewAt, viewRead}
 use Rattle.sff_format.specs.Parse.{parseRead, parseReads, parse}
 use Rattle.sff_format.proofs.Answers.{first-ok, second-ok, both-ok, under-ok, then-accepted, then-assoc, then-on}
 use Rattle.sff_format.proofs.HeaderLaws.{header-fits, characters-length}
+use Rattle.sff_format.proofs.Boundaries.{accepted-none, accepted-read}
+use Rattle.sff_format.proofs.FileLaid.{head-ok, sections-ok}
 use Rattle.sff_format.proofs.Indexes.{pass-fits}
+use Rattle.sff_format.proofs.ReadLaid.{data-fits}
 use Rattle.sff_format.proofs.Views.{read-viewed}
 
 -- past an index that is not cut short the boundary is within the file
@@ -60,10 +62,8 @@ last-none b s = refl
 
 module _ (b : List ℕ) (head : headerTest b ≡ Accepted) where
   pub read-fits : (p : ℕ) → readTest (flowCharacters b) b p ≡ Accepted → readEnd (flows b) b p ≤ length b
-  unfolding readTest dataTest readEnd
-  read-fits p e =
-      let f : p + sectionLength b p + up8 (2 * length (flowCharacters b) + 3 * baseCount b p) ≤ length b = under-ok _ _ _ _ (first-ok _ _ (second-ok _ _ (second-ok _ _ (second-ok _ _ e)))) in
-      rw (characters-length b head) at f
+  unfolding readEnd
+  read-fits p e = rw (characters-length b head) at (data-fits (flowCharacters b) b p e)
 
   module _ (s : State) (l : s .place ≤ length b) where
     -- a step at a boundary with a read left, and with none
@@ -104,18 +104,6 @@ module _ (b : List ℕ) (head : headerTest b ≡ Accepted) where
       last-step b (suc n) s ∙ rw (test-read s l n e)
       (end-read s l n (lastAnswer b (suc n) (moved b s)) (λ r. ended n (moved b s) (omega arith) (read-fits (boundary b s) r)))
 
-  -- an accepted boundary with no read left, and with one
-  accepted-none : (s : State) → boundaryTest b 0 (s .place) (s .passed-index) ≡ Accepted
-      → (indexTest b (s .place) (s .passed-index) ≡ Accepted) × (endTest b (boundary b s) (indexPassed b s) ≡ Accepted)
-  unfolding boundaryTest
-  accepted-none s a = (first-ok _ _ a, second-ok _ _ a)
-
-  accepted-read : (n : ℕ) (s : State) → boundaryTest b (suc n) (s .place) (s .passed-index) ≡ Accepted
-      → (indexTest b (s .place) (s .passed-index) ≡ Accepted) × (readTest (flowCharacters b) b (boundary b s) ≡ Accepted)
-      × (boundaryTest b n (moved b s .place) (moved b s .passed-index) ≡ Accepted)
-  unfolding boundaryTest
-  accepted-read n s a = (first-ok _ _ a, first-ok _ _ (second-ok _ _ a), second-ok _ _ (second-ok _ _ a))
-
   -- with the file's own number of flows
   viewed : Bytes b → (p : ℕ) → readTest (flowCharacters b) b p ≡ Accepted → viewRead b (viewAt (flows b) b p) ≡ parseRead (flows b) b p
   viewed y p e = rw (characters-length b head) at (read-viewed (flowCharacters b) b p e y)
@@ -124,10 +112,10 @@ module _ (b : List ℕ) (head : headerTest b ≡ Accepted) where
       → map (viewRead b) (viewsFound b (suc n) s) ≡ parseReads b n (s .place) (s .passed-index)
   unfolding viewsFound onFound parseReads _then_
   reads-found y zero s e l a =
-      let t = accepted-none s a in
+      let t = accepted-none b (s .place) (s .passed-index) a in
       rw (step-stop b s 33 (boundary b s) (test-none s l e ∙ rw (t .0, t .1)))
   reads-found y (suc n) s e l a =
-      let t = accepted-read n s a in
+      let t = accepted-read b n (s .place) (s .passed-index) a in
       let r : readTest (flowCharacters b) b (boundary b s) ≡ Accepted = t .1 in
       rw (step-found b s (test-read s l n e ∙ rw (t .0, r)), viewed y (boundary b s) r, reads-found y n (moved b s) (omega arith) (read-fits (boundary b s) r) (t .2))
 
@@ -143,15 +131,13 @@ steps-end b = go (headerTest b) refl
 
 module _ (b : List ℕ) (e : fileTest b ≡ Accepted) where
   fresh-is : fresh b ≡ record { place = headerLength b; passed-reads = 0; passed-index = false }
-  unfolding fileTest fresh freshPlace
-  fresh-is = let h : headerTest b ≡ Accepted = first-ok _ _ e in rw h
+  unfolding fresh freshPlace
+  fresh-is = rw (head-ok b e)
 
   -- "From a fresh state an accepted file's reads come in order, each once"
   pub reads-in-order : Bytes b → map (viewRead b) (viewsFound b (suc (readCount b)) (fresh b)) ≡ parse b .reads
-  unfolding fileTest parse
-  reads-in-order y =
-      let h : headerTest b ≡ Accepted = first-ok _ _ e in
-      rw fresh-is (reads-found b h y (readCount b) _ (omega arith) (header-fits b h) (second-ok _ _ e))
+  unfolding parse
+  reads-in-order y = let h = head-ok b e in rw fresh-is (reads-found b h y (readCount b) _ (omega arith) (header-fits b h) (sections-ok b e))
 
   -- "then 33"
   pub then-33 : lastAnswer b (suc (readCount b)) (fresh b) ≡ Refused 33 (length b)

@@ -1,0 +1,132 @@
+-- "Every answer has a number (0 accepted)": no refusal has the number 0. Assumes nothing.
+use Prim.Native.Nat.{ℕ, zero, suc}
+use mathlib.Core.Path.{_≡_, refl}
+use mathlib.Core.Bool.{Bool, true, false, cond}
+use mathlib.Core.List.{List}
+use native.Mathlib.Omega.{arith}
+use lib.Dec.{ltb}
+use Rattle.sff_format.specs.declared.Answer.{Answer}
+use Rattle.sff_format.specs.declared.Answer.the-variants.{Accepted, Refused}
+use Rattle.sff_format.specs.Answer.{numberOf, when, _then_}
+use Rattle.sff_format.specs.HeaderTest.{fixedTest, charactersTest, headerTest, readCount, headerLength, flows, flowCharacters}
+use Rattle.sff_format.specs.ReadTest.{nameTest, clipTest, basesTest, dataTest, readTest, readEnd}
+use Rattle.sff_format.specs.FileTest.{indexHere, passTest, indexTest, pastIndex, nowPassed, endTest, boundaryTest, fileTest}
+use Rattle.sff_format.specs.Step.{State, boundary, indexPassed, readOrNone, stepTest}
+
+-- accepted, or refused with a number that is not 0
+abbrev Numbered : Answer → Type 0
+Numbered Accepted = Unit {0}
+Numbered (Refused n p) = ltb 0 n ≡ true
+
+zero-accepted : (a : Answer) → Numbered a → numberOf a ≡ 0 → a ≡ Accepted
+zero-accepted Accepted h e = refl
+zero-accepted (Refused n p) h e = let f : false ≡ true = rw e at h in let z : _≡_ {A = ℕ} 0 1 = cc in absurd (omega arith)
+
+then-numbered : (a b : Answer) → Numbered a → Numbered b → Numbered (a then b)
+unfolding _then_
+then-numbered Accepted b h k = k
+then-numbered (Refused n p) b h k = h
+
+when-numbered : (t : Bool) (n p : ℕ) → ltb 0 n ≡ true → Numbered (when t n p)
+unfolding when
+when-numbered true n p h = h
+when-numbered false n p h = tt
+
+-- the tests in their order
+header-numbered : (b : List ℕ) → Numbered (headerTest b)
+unfolding headerTest fixedTest charactersTest
+header-numbered b =
+    then-numbered _ _ (when-numbered _ 1 _ refl)
+    (
+    then-numbered _ _
+    (
+    then-numbered _ _ (when-numbered _ 2 _ refl)
+    (
+    then-numbered _ _ (when-numbered _ 3 _ refl)
+    (then-numbered _ _ (when-numbered _ 4 _ refl) (when-numbered _ 5 _ refl))
+    )
+    )
+    (
+    then-numbered _ _ (when-numbered _ 1 _ refl)
+    (
+    then-numbered _ _ (when-numbered _ 6 _ refl)
+    (then-numbered _ _ (when-numbered _ 7 _ refl) (when-numbered _ 8 _ refl))
+    )
+    )
+    )
+
+name-numbered : (b : List ℕ) (p s L : ℕ) → Numbered (nameTest b p s L)
+unfolding nameTest
+name-numbered b p s L =
+    then-numbered _ _ (when-numbered _ 5 _ refl)
+    (
+    then-numbered _ _ (when-numbered _ 1 _ refl)
+    (then-numbered _ _ (when-numbered _ 6 _ refl) (when-numbered _ 7 _ refl))
+    )
+
+clip-numbered : (p n ql qr al ar : ℕ) → Numbered (clipTest p n ql qr al ar)
+unfolding clipTest
+clip-numbered p n ql qr al ar =
+    then-numbered _ _ (when-numbered _ 9 _ refl)
+    (
+    then-numbered _ _ (when-numbered _ 9 _ refl)
+    (then-numbered _ _ (when-numbered _ 9 _ refl) (when-numbered _ 9 _ refl))
+    )
+
+data-numbered : (characters b : List ℕ) (d n : ℕ) → Numbered (dataTest characters b d n)
+unfolding dataTest basesTest
+data-numbered characters b d n =
+    then-numbered _ _ (when-numbered _ 1 _ refl)
+    (
+    then-numbered _ _
+    (then-numbered _ _ (when-numbered _ 10 _ refl) (when-numbered _ 11 _ refl))
+    (when-numbered _ 7 _ refl)
+    )
+
+read-numbered : (characters b : List ℕ) (p : ℕ) → Numbered (readTest characters b p)
+unfolding readTest
+read-numbered characters b p =
+    then-numbered _ _ (when-numbered _ 1 _ refl)
+    (then-numbered _ _ (name-numbered b p _ _) (then-numbered _ _ (clip-numbered p _ _ _ _ _) (data-numbered characters b _ _)))
+
+index-numbered : (b : List ℕ) (p : ℕ) (q : Bool) → Numbered (indexTest b p q)
+unfolding indexTest passTest
+index-numbered b p q = go (indexHere b p q)
+  where
+    go : (t : Bool) → Numbered (cond t (passTest b p) Accepted)
+    go true = when-numbered _ 1 _ refl
+    go false = tt
+
+end-numbered : (b : List ℕ) (p : ℕ) (q : Bool) → Numbered (endTest b p q)
+unfolding endTest
+end-numbered b p q = then-numbered _ _ (when-numbered _ 13 _ refl) (when-numbered _ 12 _ refl)
+
+boundary-numbered : (b : List ℕ) (n p : ℕ) (q : Bool) → Numbered (boundaryTest b n p q)
+unfolding boundaryTest
+boundary-numbered b zero p q = then-numbered _ _ (index-numbered b p q) (end-numbered b _ _)
+boundary-numbered b (suc n) p q =
+    then-numbered _ _ (index-numbered b p q) (then-numbered _ _ (read-numbered (flowCharacters b) b _) (boundary-numbered b n _ _))
+
+file-numbered : (b : List ℕ) → Numbered (fileTest b)
+unfolding fileTest
+file-numbered b = then-numbered _ _ (header-numbered b) (boundary-numbered b (readCount b) (headerLength b) false)
+
+step-numbered : (b : List ℕ) (s : State) → Numbered (stepTest b s)
+unfolding stepTest readOrNone
+step-numbered b s =
+    then-numbered _ _ (header-numbered b)
+    (
+    then-numbered _ _ (when-numbered _ 1 _ refl)
+    (then-numbered _ _ (index-numbered b (s .place) (s .passed-index)) (go (ltb (s .passed-reads) (readCount b))))
+    )
+  where
+    go : (t : Bool) → Numbered (cond t (readTest (flowCharacters b) b (boundary b s)) (endTest b (boundary b s) (indexPassed b s) then Refused 33 (boundary b s)))
+    go true = read-numbered (flowCharacters b) b (boundary b s)
+    go false = then-numbered (endTest b (boundary b s) (indexPassed b s)) (Refused 33 (boundary b s)) (end-numbered b (boundary b s) (indexPassed b s)) refl
+
+-- the number 0 is the whole-file test's, and a step's, for accepted alone
+pub file-zero : (b : List ℕ) → numberOf (fileTest b) ≡ 0 → fileTest b ≡ Accepted
+file-zero b e = zero-accepted (fileTest b) (file-numbered b) e
+
+pub step-zero : (b : List ℕ) (s : State) → numberOf (stepTest b s) ≡ 0 → stepTest b s ≡ Accepted
+step-zero b s e = zero-accepted (stepTest b s) (step-numbered b s) e

@@ -1,12 +1,13 @@
 -- The laws of `firstNot`, over the test: what each turn of a scan that goes up shows. Assumes nothing.
 use mathlib.Core.Path.{_≡_, refl, sym, ap, _∙_}
-use mathlib.Core.Bool.{Bool, true, false}
+use mathlib.Core.Bool.{Bool, true, false, not}
 use mathlib.Core.List.{List, [], _∷_, _++_}
 use Prim.Native.Nat.{ℕ, zero, suc, _+_, _-_, _≤_, _<_}
-use native.Mathlib.Nat.{add-zero, add-suc, suc-add}
+use native.Mathlib.Nat.{add-zero, add-assoc}
 use native.Mathlib.Numerals.{add-one}
 use native.Mathlib.Omega.{arith}
 use borrow.Author.Needs.{needs}
+use borrow.Author.Tests.{not-true, not-false}
 use lib.ListN.{length, take, drop, getD}
 use Rattle.octets.proofs.Lists.{part-suc}
 use Rattle.octets.specs.Scans.{firstNot, run, oneMore}
@@ -42,25 +43,30 @@ unfolding run
 run-le t [] = omega arith
 run-le t (x ∷ xs) = more-le (t x) _ _ (run-le t xs)
 
--- The invariant of a scan that goes up: what is sought from `from` on is sought from i on.
-pub record Seen (p : ℕ → Bool) (from to : ℕ) (l : List ℕ) (i : ℕ) : Type 0 where
-  pub inside : to ≤ length l
-  pub low : i ≤ to
-  pub is : firstNot p from to l ≡ firstNot p i to l
+-- The invariant of a scan that goes up: what is sought from `from` on is sought j places on.
+pub record Seen (p : ℕ → Bool) (from n : ℕ) (l : List ℕ) (j : ℕ) : Type 0 where
+  pub inside : from + n ≤ length l
+  pub low : j ≤ n
+  pub is : firstNot p from (from + n) l ≡ firstNot p (from + j) (from + n) l
 
-pub seen-start : (p : ℕ → Bool) (from to : ℕ) (l : List ℕ) → from ≤ to → to ≤ length l → Seen p from to l from
-seen-start p from to l h k = record { inside = k; low = h; is = refl }
+pub seen-start : (p : ℕ → Bool) (from n : ℕ) (l : List ℕ) → from + n ≤ length l → Seen p from n l 0
+seen-start p from n l h = record { inside = h; low = omega arith; is = rw add-zero }
 
-module _ {p : ℕ → Bool} {from to : ℕ} {l : List ℕ} {i : ℕ} (s : Seen p from to l i) where
-  -- r is what a function that tests the element at i gave
-  pub seen-more : i < to → {r : Bool} → r ≡ p (getD l i 0) → r ≡ true → Seen p from to l (i + 1)
-  seen-more h e t = record { inside = s .inside; low = omega arith; is = s .is ∙ go p i to l h (s .inside) (sym e ∙ t) }
+module _ {p : ℕ → Bool} {from n : ℕ} {l : List ℕ} {j : ℕ} (s : Seen p from n l j) where
+  -- r is what a function that tests the element there gave
+  pub seen-more : j < n → {r : Bool} → r ≡ p (getD l (from + j) 0) → not r ≡ false → Seen p from n l (j + 1)
+  seen-more h {r} e t = record {
+    inside = s .inside;
+    low = omega arith;
+    is = s .is ∙ go p (from + j) (from + n) l (omega arith) (s .inside) (sym e ∙ not-false r t) ∙ rw (add-assoc from j 1);
+  }
 
-  pub seen-stop : i < to → {r : Bool} → r ≡ p (getD l i 0) → r ≡ false → i ≡ firstNot p from to l
-  seen-stop h e f = sym (s .is ∙ stop p i to l h (s .inside) (sym e ∙ f))
+  module _ {to : ℕ} (w : to ≡ from + n) where
+    pub seen-stop : j < n → {r : Bool} → r ≡ p (getD l (from + j) 0) → not r ≡ true → (from + j ≡ firstNot p from to l) × (from + j ≤ to)
+    seen-stop h {r} e f = (rw w (sym (s .is ∙ stop p (from + j) (from + n) l (omega arith) (s .inside) (sym e ∙ not-true r f))), omega arith)
 
-  pub seen-end : to ≤ i → i ≡ firstNot p from to l
-  seen-end h = let e : i ≡ to = omega arith in cc (none p to l, s .is)
+    pub seen-end : n ≤ j → (to ≡ firstNot p from to l) × (to ≤ to)
+    seen-end h = let e : j ≡ n = omega arith in (rw w (cc (none p (from + n) l, s .is)), omega arith)
 
 -- what `search` needs for a scan's every need
-pub ruleset scan = (seen-start, seen-more, seen-stop, seen-end, needs)
+pub ruleset scan = (seen-start, seen-more, needs)

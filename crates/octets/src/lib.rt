@@ -178,14 +178,21 @@ fn passes_test(test: ByteTest, x: u8) -> bool
     }
 }
 
-// The first place from `from` on, before `to`, whose byte fails the test, or `to`.
+// The first place from `from` on, before `to`, whose byte fails the test, or `to`. The number of bytes is taken first: from the two places the compiler
+// would work it out anew.
 pub fn first_not(test: ByteTest, s: &[u8], from: usize, to: usize) -> usize
     requires { ⌜ (from ≤ to) × (to ≤ length (now s)) ⌝ }
     ensures { λ r. ⌜ (r ≡ firstNot (passes test) from to (now (s .entry))) × (r ≤ to) ⌝ }
 {
-    let mut i = from;
-    while i < to && passes_test(test, s[i]) {
-        i += 1;
+    let n = to - from;
+    let mut j = 0;
+    loop {
+        if j >= n {
+            break to;
+        }
+        if !passes_test(test, s[from + j]) {
+            break from + j;
+        }
+        j += 1;
     }
-    i
 }

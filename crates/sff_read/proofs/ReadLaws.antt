@@ -3,14 +3,15 @@ use Prim.Native.Nat.{ℕ, _+_, _*_, _≤_}
 use mathlib.Core.Path.{_≡_, sym, _∙_}
 use mathlib.Core.List.{List}
 use lib.Dec.{ltb}
+use borrow.Author.Tests.{le-ltb}
 use lib.ListN.{length}
 use Rattle.octets.specs.Parts.{part, up8}
 use Rattle.octets.specs.Scans.{firstNot, isZero}
 use Rattle.octets.proofs.Lists.{length-part}
 use Rattle.sff_format.specs.declared.Answer.{Answer}
-use Rattle.sff_format.specs.declared.Answer.the-variants.{Accepted}
+use Rattle.sff_format.specs.declared.Answer.the-variants.{Accepted, Refused}
 use Rattle.sff_format.specs.Answer.{when, stopped, _then_}
-use Rattle.sff_format.specs.ReadTest.{nameTest, clipTest, basesTest, dataTest, readTest}
+use Rattle.sff_format.specs.ReadTest.{sectionLength, nameLength, nameTest, clipTest, basesTest, dataTest, readTest}
 use Rattle.sff_format.proofs.Answers.{first-ok, second-ok, under-ok}
 use Rattle.sff_read.specs.declared.inner.ReadFields.{ReadFields}
 use Rattle.sff_read.specs.Fields.{FieldsAt}
@@ -21,15 +22,32 @@ unfolding nameTest
 name-fits b p s L e t = under-ok _ _ _ _ (first-ok _ _ (second-ok _ _ (sym e ∙ t)))
 
 -- a read's tests over its fields as they were read
-pub read-by-fields : {b : List ℕ} {p : ℕ} {r : ReadFields} → FieldsAt b p r → (characters : List ℕ)
+read-by-fields : {b : List ℕ} {p : ℕ} {r : ReadFields} → FieldsAt b p r → (characters : List ℕ)
     → readTest characters b p
     ≡ (when (ltb (length b) (p + 16)) 1 p
-    then nameTest b p (r .section) (r .«name_length»)
+    then nameTest b p (sectionLength b p) (nameLength b p)
     then clipTest p (r .bases) (r .«quality_left» .0) (r .«quality_right» .0) (r .«adapter_left» .0) (r .«adapter_right» .0)
-    then dataTest characters b (p + r .section) (r .bases))
+    then dataTest characters b (p + sectionLength b p) (r .bases))
 unfolding readTest
 read-by-fields f characters =
-    rw (f .section-is, f .name-is, f .bases-are, f .quality-left-is, f .quality-right-is, f .adapter-left-is, f .adapter-right-is)
+    rw (f .bases-are, f .quality-left-is, f .quality-right-is, f .adapter-left-is, f .adapter-right-is)
+
+-- what is answered once the name is accepted, from the two lengths s and L and the fields as they were read
+module _ {b : List ℕ} {p : ℕ} {r : ReadFields} (f : FieldsAt b p r) (characters : List ℕ) {s L : ℕ} (e : s ≡ sectionLength b p) (g : L ≡ nameLength b p)
+    (h : p + 16 ≤ length b) {a : Answer} (n : a ≡ nameTest b p s L) (t : a ≡ Accepted) where
+  named : readTest characters b p
+      ≡ (clipTest p (r .bases) (r .«quality_left» .0) (r .«quality_right» .0) (r .«adapter_left» .0) (r .«adapter_right» .0) then dataTest characters b (p + s) (r .bases))
+  unfolding _then_ when
+  named = rw (read-by-fields f characters, le-ltb (length b) (p + 16) h, ← e, ← g, ← n, t)
+
+  module _ {k : Answer} (c : k ≡ clipTest p (r .bases) (r .«quality_left» .0) (r .«quality_right» .0) (r .«adapter_left» .0) (r .«adapter_right» .0)) where
+    pub clips-stop : {i z : ℕ} → k ≡ Refused i z → k ≡ readTest characters b p
+    unfolding _then_
+    clips-stop u = sym (named ∙ rw (← c, u))
+
+    pub data-left : k ≡ Accepted → {d : Answer} → d ≡ dataTest characters b (p + s) (r .bases) → d ≡ readTest characters b p
+    unfolding _then_
+    data-left u {d} v = sym (named ∙ rw (← c, u, ← v))
 
 -- a data section's tests over the flow characters as they stand in the file
 pub data-by-flows : (b : List ℕ) (F d n : ℕ) → 31 + F ≤ length b

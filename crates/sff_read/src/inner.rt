@@ -17,10 +17,8 @@ use sff_format::Stretch;
 use sff_walk::BasePosition;
 use sff_walk::inner::bases_test;
 
-// The fields of a read's header section.
+// The fields of a read's header section behind the two lengths.
 struct ReadFields {
-    section: usize,
-    name_length: usize,
     bases: usize,
     quality_left: BasePosition,
     quality_right: BasePosition,
@@ -33,8 +31,6 @@ fn read_fields(s: &[u8], p: usize) -> ReadFields
     ensures { λ r. ⌜ FieldsAt (now (s .entry)) p r ⌝ }
 {
     ReadFields {
-        section: get16(s, p),
-        name_length: get16(s, p + 2),
         bases: get32(s, p + 4),
         quality_left: BasePosition(get16(s, p + 8)),
         quality_right: BasePosition(get16(s, p + 10)),
@@ -148,13 +144,14 @@ pub fn read_test(s: &[u8], p: usize, flows: usize) -> Answer
     if s.len() < p + 16 {
         return Answer::Refused(1, p);
     }
-    let fields = read_fields(s, p);
-    let section = fields.section;
-    let bases = fields.bases;
-    let named = name_test(s, p, section, fields.name_length);
+    let section = get16(s, p);
+    let named = name_test(s, p, section, get16(s, p + 2));
     let Answer::Accepted = named else {
         return named;
     };
+    // Not before the name: they would wait on the stack while it is scanned.
+    let fields = read_fields(s, p);
+    let bases = fields.bases;
     let clipped = clip_test(
         p,
         bases,
@@ -184,13 +181,13 @@ pub fn read_view(s: &[u8], p: usize, flows: usize) -> ReadView
 {
     let fields = read_fields(s, p);
     let n = fields.bases;
-    let d = p + fields.section;
+    let d = p + get16(s, p);
     let increments = d + 2 * flows;
     ReadView {
         place: p,
         name: Stretch {
             at: p + 16,
-            size: fields.name_length,
+            size: get16(s, p + 2),
         },
         values: Stretch {
             at: d,

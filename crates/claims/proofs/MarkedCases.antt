@@ -3,14 +3,14 @@ use mathlib.Core.Path.{refl}
 use Rattle.octets.specs.Parts.{filled, insertAt}
 use Rattle.octets.specs.Numbers.{bigEndianFrom, number, bytesOf, fields, words}
 use Rattle.octets.specs.Scans.{run, firstNot}
-use Rattle.sff_format.specs.Answer.{when, _then_}
+use Rattle.sff_format.specs.Answer.{when, shifted, _then_}
 use Rattle.sff_format.specs.Rules.{declared, badIndexLength, badIndex, indexSize, leftLimit, rightLimit, isFlow, walkRun, isCall, callRun}
 use Rattle.sff_format.specs.Model.{headerFields, layoutHeader, readFields, layoutReadHeader, layoutReadData, layoutRead, layoutReads, layoutIndex, layout}
 use Rattle.sff_format.specs.HeaderTest.{fixedTest, charactersTest, headerTest}
-use Rattle.sff_format.specs.ReadTest.{nameTest, clipTest, walk, calls, basesTest, dataTest, readTest, readEnd}
+use Rattle.sff_format.specs.ReadTest.{nameTest, clipTest, basesTest, dataTest, readTest, readEnd}
 use Rattle.sff_format.specs.FileTest.{indexDue, passTest, indexTest, pastIndex, endTest, boundaryTest, fileTest}
 use Rattle.claims.specs.Marked.{All, table}
 
 pub marked : All table
-unfolding filled insertAt bigEndianFrom number bytesOf fields words run firstNot when _then_ declared badIndexLength badIndex indexSize leftLimit rightLimit isFlow walkRun isCall callRun headerFields layoutHeader readFields layoutReadHeader layoutReadData layoutRead layoutReads layoutIndex layout fixedTest charactersTest headerTest nameTest clipTest walk calls basesTest dataTest readTest readEnd indexDue passTest indexTest pastIndex endTest boundaryTest fileTest
+unfolding filled insertAt bigEndianFrom number bytesOf fields words run firstNot when shifted _then_ declared badIndexLength badIndex indexSize leftLimit rightLimit isFlow walkRun isCall callRun headerFields layoutHeader readFields layoutReadHeader layoutReadData layoutRead layoutReads layoutIndex layout fixedTest charactersTest headerTest nameTest clipTest basesTest dataTest readTest readEnd indexDue passTest indexTest pastIndex endTest boundaryTest fileTest
 marked = (refl, (refl, (refl, (refl, (refl, (refl, (refl, (refl, (refl, (refl, (refl, (refl, (refl, tt)))))))))))))

@@ -4,7 +4,7 @@ use mathlib.Core.Bool.{Bool, true, false, _&&_, _||_}
 use mathlib.Core.Path.{_≡_}
 use mathlib.Core.List.{List, [], _∷_}
 use lib.ListN.{length}
-use lib.Dec.{eqb, leb}
+use lib.Dec.{eqb, leb, ltb}
 use Rattle.octets.specs.Parts.{part}
 use Rattle.octets.specs.declared.ByteTest.{ByteTest}
 use Rattle.octets.specs.declared.ByteTest.the-variants.{FlowCharacter, NameByte, Zero}
@@ -22,6 +22,10 @@ run test (x ∷ xs) = oneMore (test x) (run test xs)
 -- every element passes: the run of those that do goes to the end
 abbrev pub Every : (ℕ → Bool) → List ℕ → Type 0
 Every test xs = run test xs ≡ length xs
+
+-- some element fails the test
+abbrev pub fails : (ℕ → Bool) → List ℕ → Bool
+fails test xs = ltb (run test xs) (length xs)
 
 -- the first place from `from` on, before `to`, whose byte fails the test, or `to`: "Within one test the lowest place is named"
 unfoldable pub firstNot : (ℕ → Bool) → ℕ → ℕ → List ℕ → ℕ

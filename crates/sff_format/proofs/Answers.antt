@@ -1,21 +1,21 @@
 -- A chain of tests accepts exactly if each accepts; a scan accepts exactly if it reaches the end. Assumes nothing.
-use Prim.Native.Nat.{ℕ, suc, _+_, _-_, _≤_}
-use mathlib.Core.Path.{_≡_, refl, ap}
+use Prim.Native.Nat.{ℕ, suc, _+_, _-_, _≤_, _<_}
+use mathlib.Core.Path.{_≡_, refl, sym, ap}
 use mathlib.Core.Bool.{Bool, true, false, not, _&&_}
 use mathlib.Core.List.{List, [], _∷_}
 use native.Mathlib.Omega.{arith}
 use lib.Dec.{ltb, eqb}
 use lib.ListN.{length}
-use borrow.Author.Tests.{not-false, ltb-false, lt-ltb, le-ltb, eqb-true, eq-eqb, ne-eqb}
+use borrow.Author.Tests.{not-false, ltb-true, ltb-false, lt-ltb, le-ltb, eqb-true, eq-eqb, ne-eqb}
 use Rattle.octets.specs.Parts.{part}
 use Rattle.octets.specs.Scans.{run, firstNot, Every}
 use Rattle.octets.proofs.Lists.{length-part}
 use Rattle.octets.proofs.Scan.{more-le, run-le}
 use Rattle.sff_format.specs.declared.Answer.{Answer}
 use Rattle.sff_format.specs.declared.Answer.the-variants.{Accepted, Refused}
-use Rattle.sff_format.specs.Answer.{when, stopped, _then_}
+use Rattle.sff_format.specs.Answer.{placeOf, when, stopped, shifted, own, _then_}
 use Rattle.sff_format.specs.Rules.{isFlow, isCall, walkRun, callRun}
-use Rattle.sff_format.specs.ReadTest.{walk, calls}
+use Rattle.sff_format.specs.ReadTest.{basesTest}
 
 -- the code's tests as those of the definitions, for `search`
 pub ruleset tests = (lt-ltb, le-ltb, eq-eqb, ne-eqb)
@@ -104,26 +104,61 @@ module _ (b : List ℕ) (p n to c : ℕ) (e : to ≡ p + n) (fits : p + n ≤ le
   unfolding firstNot
   ok-scan t a = let l = length-part p n b fits in rw span (ok-under (p + run t (part p n b)) to _ _ (omega arith))
 
-  pub walk-ok : (F f : ℕ) → stopped c (walk F f p to b) to ≡ Accepted → walkRun F f (part p n b) ≡ length (part p n b)
-  unfolding walk
-  walk-ok F f a =
-      let h : to ≤ p + walkRun F f (part p (to - p) b) = under-ok _ _ _ _ a in
-      let k : to ≤ p + walkRun F f (part p n b) = rw span at h in
-      let l = length-part p n b fits in
-      omega (arith, walk-le F f (part p n b))
+-- places in another count
+pub shifted-ok : (from : ℕ) (a : Answer) → shifted from a ≡ Accepted → a ≡ Accepted
+unfolding shifted
+shifted-ok from Accepted e = refl
+shifted-ok from (Refused n p) e = not-accepted n (from + p) e
 
-  pub ok-walk : (F f : ℕ) → walkRun F f (part p n b) ≡ length (part p n b) → stopped c (walk F f p to b) to ≡ Accepted
-  unfolding walk
-  ok-walk F f a = let l = length-part p n b fits in rw span (ok-under (p + walkRun F f (part p n b)) to _ _ (omega arith))
+pub ok-shifted : (from : ℕ) (a : Answer) → a ≡ Accepted → shifted from a ≡ Accepted
+unfolding shifted
+ok-shifted from a e = rw e
 
-  pub calls-ok : (characters : List ℕ) (f q : ℕ) → stopped c (calls characters f q p to b) to ≡ Accepted → callRun characters f (part q n b) (part p n b) ≡ length (part p n b)
-  unfolding calls
-  calls-ok characters f q a =
-      let h : to ≤ p + callRun characters f (part q (to - p) b) (part p (to - p) b) = under-ok _ _ _ _ a in
-      let k : to ≤ p + callRun characters f (part q n b) (part p n b) = rw span at h in
-      let l = length-part p n b fits in
-      omega (arith, call-le characters f (part q n b) (part p n b))
+pub own-ok : (a : Answer) → own a ≡ Accepted → a ≡ Accepted
+unfolding own
+own-ok Accepted e = refl
+own-ok (Refused n p) e = not-accepted n 0 e
 
-  pub ok-calls : (characters : List ℕ) (f q : ℕ) → callRun characters f (part q n b) (part p n b) ≡ length (part p n b) → stopped c (calls characters f q p to b) to ≡ Accepted
-  unfolding calls
-  ok-calls characters f q a = let l = length-part p n b fits in rw span (ok-under (p + callRun characters f (part q n b) (part p n b)) to _ _ (omega arith))
+pub ok-own : (a : Answer) → a ≡ Accepted → own a ≡ Accepted
+unfolding own
+ok-own a e = rw e
+
+-- increments and bases are accepted exactly if the walk and the calls go to the end
+module _ (characters xs ys : List ℕ) where
+  pub walk-ok : basesTest characters xs ys ≡ Accepted → walkRun (length characters) 0 xs ≡ length xs
+  unfolding basesTest
+  walk-ok e = let h : length xs ≤ walkRun (length characters) 0 xs = under-ok _ _ _ _ (first-ok _ _ e) in omega (arith, h, walk-le (length characters) 0 xs)
+
+  pub calls-ok : basesTest characters xs ys ≡ Accepted → callRun characters 0 xs ys ≡ length ys
+  unfolding basesTest
+  calls-ok e = let h : length xs + length ys ≤ length xs + callRun characters 0 xs ys = under-ok _ _ _ _ (second-ok _ _ e) in omega (arith, h, call-le characters 0 xs ys)
+
+  pub ok-bases : walkRun (length characters) 0 xs ≡ length xs → callRun characters 0 xs ys ≡ length ys → basesTest characters xs ys ≡ Accepted
+  unfolding basesTest
+  ok-bases e f =
+      both-ok _ _ (ok-under (walkRun (length characters) 0 xs) (length xs) _ _ (omega arith))
+      (ok-under (length xs + callRun characters 0 xs ys) (length xs + length ys) _ _ (omega arith))
+
+-- a refused test over increments and bases names one of them
+refused-not : {A : Type 0} (n p : ℕ) → Accepted ≡ Refused n p → A
+refused-not n p e = not-accepted n p (sym e)
+
+stopped-in : (c q end n p : ℕ) → stopped c q end ≡ Refused n p → p < end
+unfolding when
+stopped-in c q end n p e = go (ltb q end) refl e
+  where
+    go : (t : Bool) → ltb q end ≡ t → when t c q ≡ Refused n p → p < end
+    go true l f = let h = ltb-true q end l in let z : q ≡ p = ap placeOf f in omega arith
+    go false l f = refused-not n p f
+
+then-refused : (a b : Answer) (n p end : ℕ) → (a ≡ Refused n p → p < end) → (b ≡ Refused n p → p < end) → (a then b) ≡ Refused n p → p < end
+unfolding _then_
+then-refused Accepted b n p end f g e = g e
+then-refused (Refused m q) b n p end f g e = f e
+
+pub bases-in : (characters xs ys : List ℕ) (n p : ℕ) → basesTest characters xs ys ≡ Refused n p → p < length xs + length ys
+unfolding basesTest
+bases-in characters xs ys n p e =
+    then-refused _ _ n p (length xs + length ys)
+    (λ f. let h = stopped-in _ (walkRun (length characters) 0 xs) (length xs) n p f in omega arith)
+    (λ f. stopped-in _ (length xs + callRun characters 0 xs ys) (length xs + length ys) n p f) e

@@ -1,45 +1,35 @@
--- The laws by which the code's loops go over the walk and the bases: x is the flow position that the byte at p leads to. Assumes nothing.
-use Prim.Native.Nat.{ℕ, suc, _+_, _-_, _≤_, _<_}
+-- The laws by which the code's loops go over the walk and the bases: x is the flow position that the increment at k leads to. Assumes nothing.
+use Prim.Native.Nat.{ℕ, suc, _+_, _≤_, _<_}
 use mathlib.Core.Path.{_≡_}
 use mathlib.Core.Bool.{true, false, _&&_}
 use mathlib.Core.List.{List}
 use native.Mathlib.Omega.{arith}
-use lib.ListN.{length, getD}
-use Rattle.octets.specs.Parts.{part}
-use Rattle.octets.proofs.Lists.{part-suc, getD-part}
+use lib.ListN.{length, drop, getD, drop-of-length-le}
+use lib.Seq.{drop-cons}
 use Rattle.sff_format.specs.Rules.{isFlow, isCall, walkRun, callRun}
-use Rattle.sff_format.specs.ReadTest.{walk, calls}
 
-pub walk-end : (F f p to : ℕ) (b : List ℕ) → to ≤ p → walk F f p to b ≡ p
-unfolding walk walkRun
-walk-end F f p to b h = let e : to - p ≡ 0 = omega arith in rw e (omega arith)
+pub walk-end : (F f k : ℕ) (xs : List ℕ) → length xs ≤ k → walkRun F f (drop k xs) ≡ 0
+unfolding walkRun
+walk-end F f k xs h = rw (drop-of-length-le xs h)
 
-module _ (F f p to x : ℕ) (b : List ℕ) (e : x ≡ f + getD b p 0) (l : p < to) (fits : to ≤ length b) where
-  pub walk-stop : isFlow F x ≡ false → walk F f p to b ≡ p
-  unfolding walk walkRun
-  walk-stop t = let n : to - p ≡ suc (to - (p + 1)) = omega arith in rw (n, part-suc p (to - (p + 1)) b (omega arith), ← e, t) (omega arith)
+module _ (F f k x : ℕ) (xs : List ℕ) (e : x ≡ f + getD xs k 0) (l : k < length xs) where
+  pub walk-stop : isFlow F x ≡ false → walkRun F f (drop k xs) ≡ 0
+  unfolding walkRun
+  walk-stop t = rw (drop-cons xs k 0 l, ← e, t)
 
-  pub walk-on : isFlow F x ≡ true → walk F f p to b ≡ walk F x (p + 1) to b
-  unfolding walk walkRun
-  walk-on t = let n : to - p ≡ suc (to - (p + 1)) = omega arith in rw (n, part-suc p (to - (p + 1)) b (omega arith), ← e, t) (omega arith)
+  pub walk-on : isFlow F x ≡ true → walkRun F f (drop k xs) ≡ suc (walkRun F x (drop (suc k) xs))
+  unfolding walkRun
+  walk-on t = rw (drop-cons xs k 0 l, ← e, t)
 
-pub calls-end : (characters : List ℕ) (f p q to : ℕ) (b : List ℕ) → to ≤ q → calls characters f p q to b ≡ q
-unfolding calls callRun
-calls-end characters f p q to b h = let e : to - q ≡ 0 = omega arith in rw e (omega arith)
+  module _ (characters ys : List ℕ) (m : k < length ys) where
+    pub calls-stop : (isFlow (length characters) x && isCall characters x (getD ys k 0)) ≡ false → callRun characters f (drop k xs) (drop k ys) ≡ 0
+    unfolding callRun
+    calls-stop t = rw (drop-cons xs k 0 l, drop-cons ys k 0 m, ← e, t)
 
-module _ (characters : List ℕ) (f p q to x : ℕ) (b : List ℕ) (e : x ≡ f + getD b p 0) (l : q < to) (fits : to ≤ length b) (before : p ≤ q) where
-  pub calls-stop : (isFlow (length characters) x && isCall characters x (getD b q 0)) ≡ false → calls characters f p q to b ≡ q
-  unfolding calls callRun
-  calls-stop t =
-      let n : to - q ≡ suc (to - (q + 1)) = omega arith in
-      rw (n, part-suc p (to - (q + 1)) b (omega arith), part-suc q (to - (q + 1)) b (omega arith), ← e, t) (omega arith)
+    pub calls-on : (isFlow (length characters) x && isCall characters x (getD ys k 0)) ≡ true → callRun characters f (drop k xs) (drop k ys) ≡ suc (callRun characters x (drop (suc k) xs) (drop (suc k) ys))
+    unfolding callRun
+    calls-on t = rw (drop-cons xs k 0 l, drop-cons ys k 0 m, ← e, t)
 
-  pub calls-on : (isFlow (length characters) x && isCall characters x (getD b q 0)) ≡ true → calls characters f p q to b ≡ calls characters x (p + 1) (q + 1) to b
-  unfolding calls callRun
-  calls-on t =
-      let n : to - q ≡ suc (to - (q + 1)) = omega arith in
-      rw (n, part-suc p (to - (q + 1)) b (omega arith), part-suc q (to - (q + 1)) b (omega arith), ← e, t) (omega arith)
-
--- the flow character that the code reads at 30 + f
-pub character-at : (b : List ℕ) (F f : ℕ) → 1 ≤ f → f ≤ F → getD (part 31 F b) (f - 1) 0 ≡ getD b (30 + f) 0
-character-at b F f g h = let e : 31 + (f - 1) ≡ 30 + f = omega arith in rw (getD-part 31 F b (f - 1) (omega arith), e)
+pub calls-end : (characters : List ℕ) (f k : ℕ) (xs ys : List ℕ) → length xs ≤ k → callRun characters f (drop k xs) (drop k ys) ≡ 0
+unfolding callRun
+calls-end characters f k xs ys h = rw (drop-of-length-le xs h)

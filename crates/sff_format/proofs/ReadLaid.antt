@@ -15,7 +15,7 @@ use Rattle.sff_format.specs.Model.{Read, readFields, layoutReadHeader, l
 use Rattle.sff_format.specs.ReadTest.{sectionLength, nameLength, baseCount, qualityLeft, qualityRight, adapterLeft, adapterRight, nameTest, clipTest, basesTest, dataTest, readTest, readEnd}
 use Rattle.sff_format.specs.Parse.{parseRead}
 use Rattle.sff_format.specs.Valid.{ValidRead}
-use Rattle.sff_format.proofs.Answers.{first-ok, second-ok, under-ok, same-ok, scan-ok, walk-ok, calls-ok}
+use Rattle.sff_format.proofs.Answers.{first-ok, second-ok, under-ok, same-ok, scan-ok, shifted-ok, walk-ok, calls-ok}
 use Rattle.sff_format.proofs.Sizes.{length-head, length-data}
 use Rattle.octets.proofs.Stands.{read-stands, stands-both, filled-stands, length-fields, fields-stand, length-words, length-wordsAt, words-stand, words-small, number-small}
 
@@ -67,9 +67,9 @@ module _ (characters b : List ℕ) (p : ℕ) where
     unfolding dataTest
     data-fits = under-ok _ _ _ _ (first-ok _ _ data-ok)
 
-    bases-ok : basesTest characters b (p + sectionLength b p + 2 * length characters) (baseCount b p) ≡ Accepted
+    bases-ok : basesTest characters (part (p + sectionLength b p + 2 * length characters) (baseCount b p) b) (part (p + sectionLength b p + 2 * length characters + baseCount b p) (baseCount b p) b) ≡ Accepted
     unfolding dataTest
-    bases-ok = first-ok _ _ (second-ok _ _ data-ok)
+    bases-ok = shifted-ok (p + sectionLength b p + 2 * length characters) _ (first-ok _ _ (second-ok _ _ data-ok))
 
     -- a stretch of the data section has its length
     bases-length : (q : ℕ) → q ≤ p + sectionLength b p + 2 * length characters + 2 * baseCount b p → length (part q (baseCount b p) b) ≡ baseCount b p
@@ -165,7 +165,7 @@ module _ (characters b : List ℕ) (p : ℕ) where
         (rw (length-head (parseRead (length characters) b p), ln, ← s)) head-stands data-stands
 
     pub read-valid : ValidRead characters (parseRead (length characters) b p)
-    unfolding parseRead clipTest basesTest
+    unfolding parseRead clipTest
     read-valid =
         let F = length characters in
         let N = baseCount b p in
@@ -194,7 +194,7 @@ module _ (characters b : List ℕ) (p : ℕ) where
           values-fit = words-small b y F d (omega arith);
           increments-count = rw (li, lb);
           qualities-count = rw (lq, lb);
-          walk-good = walk-ok b (d + 2 * F) N _ _ refl (omega arith) F 0 (first-ok _ _ (bases-ok e));
-          bases-good = calls-ok b (d + 2 * F + N) N _ _ refl (omega arith) characters 0 (d + 2 * F) (second-ok _ _ (bases-ok e));
+          walk-good = walk-ok characters _ _ (bases-ok e);
+          bases-good = calls-ok characters _ _ (bases-ok e);
           bytes-good = (bytes-part (d + 2 * F) N b y, bytes-part (d + 2 * F + N) N b y, bytes-part (d + 2 * F + N + N) N b y);
         }

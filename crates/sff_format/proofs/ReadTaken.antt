@@ -14,7 +14,7 @@ use Rattle.sff_format.specs.Rules.{leftLimit, rightLimit}
 use Rattle.sff_format.specs.ReadTest.{sectionLength, nameLength, baseCount, qualityLeft, qualityRight, adapterLeft, adapterRight, nameTest, clipTest, basesTest, dataTest, readTest, readEnd}
 use Rattle.sff_format.specs.Parse.{parseRead}
 use Rattle.sff_format.specs.Valid.{ValidRead}
-use Rattle.sff_format.proofs.Answers.{both-ok, ok-under, ok-same, ok-scan, ok-walk, ok-calls}
+use Rattle.sff_format.proofs.Answers.{both-ok, ok-under, ok-same, ok-scan, ok-shifted, ok-bases}
 use Rattle.sff_format.proofs.Sizes.{length-head, length-data}
 use Rattle.octets.proofs.Stands.{Numbers, stands-read, stands-left, stands-right, stands-fits, stands-filled, length-fields, stand-fields, length-words, stand-words}
 
@@ -125,7 +125,7 @@ module _ (characters b : List ℕ) (p : ℕ) (r : Read) (v : ValidRead character
         (stands-right d (d + 2 * length characters + length (r .bases) + length (r .bases)) (words (r .values) ++ r .increments ++ r .bases) (r .qualities) b l (omega arith) (data-pieces .0))
 
     data-ok : dataTest characters b d (length (r .bases)) ≡ Accepted
-    unfolding dataTest basesTest
+    unfolding dataTest
     data-ok =
         let F = length characters in
         let N = length (r .bases) in
@@ -136,10 +136,7 @@ module _ (characters b : List ℕ) (p : ℕ) (r : Read) (v : ValidRead character
         both-ok _ _ (ok-under (length b) (d + up8 (2 * F + 3 * N)) _ _ (omega arith))
         (
         both-ok _ _
-        (
-        both-ok _ _ (ok-walk b (d + 2 * F) N _ _ refl (omega arith) F 0 (rw i (v .walk-good)))
-        (ok-calls b (d + 2 * F + N) N _ _ refl (omega arith) characters 0 (d + 2 * F) (rw (i, c) (v .bases-good)))
-        )
+        (ok-shifted (d + 2 * F) _ (rw (i, c) (ok-bases characters (r .increments) (r .bases) (v .walk-good) (v .bases-good))))
         (ok-scan b (d + (2 * F + 3 * N)) (up8 (2 * F + 3 * N) - (2 * F + 3 * N)) (d + up8 (2 * F + 3 * N)) _ (omega arith) (omega arith) isZero (data-pieces .1))
         )
 

@@ -7,7 +7,7 @@ use native.Mathlib.Omega.{arith}
 use lib.Dec.{ltb}
 use Rattle.sff_format.specs.declared.Answer.{Answer}
 use Rattle.sff_format.specs.declared.Answer.the-variants.{Accepted, Refused}
-use Rattle.sff_format.specs.Answer.{numberOf, when, _then_}
+use Rattle.sff_format.specs.Answer.{numberOf, when, shifted, _then_}
 use Rattle.sff_format.specs.HeaderTest.{fixedTest, charactersTest, headerTest, readCount, headerLength, flows, flowCharacters}
 use Rattle.sff_format.specs.ReadTest.{nameTest, clipTest, basesTest, dataTest, readTest, readEnd}
 use Rattle.sff_format.specs.FileTest.{indexHere, passTest, indexTest, pastIndex, nowPassed, endTest, boundaryTest, fileTest}
@@ -31,6 +31,11 @@ when-numbered : (t : Bool) (n p : ℕ) → ltb 0 n ≡ true → Numbered (when t
 unfolding when
 when-numbered true n p h = h
 when-numbered false n p h = tt
+
+shifted-numbered : (from : ℕ) (a : Answer) → Numbered a → Numbered (shifted from a)
+unfolding shifted
+shifted-numbered from Accepted h = tt
+shifted-numbered from (Refused n p) h = h
 
 -- the tests in their order
 header-numbered : (b : List ℕ) → Numbered (headerTest b)
@@ -79,7 +84,7 @@ data-numbered characters b d n =
     then-numbered _ _ (when-numbered _ 1 _ refl)
     (
     then-numbered _ _
-    (then-numbered _ _ (when-numbered _ 10 _ refl) (when-numbered _ 11 _ refl))
+    (shifted-numbered _ _ (then-numbered _ _ (when-numbered _ 10 _ refl) (when-numbered _ 11 _ refl)))
     (when-numbered _ 7 _ refl)
     )
 

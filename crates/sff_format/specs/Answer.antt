@@ -1,5 +1,5 @@
 -- What a test answers, and how tests follow one another. Assumes nothing: these are definitions.
-use Prim.Native.Nat.{ℕ}
+use Prim.Native.Nat.{ℕ, _+_}
 use mathlib.Core.Bool.{Bool, true, false}
 use lib.Dec.{ltb}
 use Rattle.sff_format.specs.declared.Answer.{Answer}
@@ -28,3 +28,13 @@ Accepted then b = b
 -- number n at the place where a scan stopped, if it stopped short of the end: "Within one test the lowest place is named"
 abbrev pub stopped : ℕ → ℕ → ℕ → Answer
 stopped n p end = when (ltb p end) n p
+
+-- the answer of a test over bytes that start at place `from`, in places of the file
+unfoldable pub shifted : ℕ → Answer → Answer
+shifted from Accepted = Accepted
+shifted from (Refused n p) = Refused n (from + p)
+
+-- "A writer's refusals of its own input have place 0"
+unfoldable pub own : Answer → Answer
+own Accepted = Accepted
+own (Refused n p) = Refused n 0

@@ -1,4 +1,4 @@
--- In document 01's order: an answer; the rules; the model of a file and its layout; what a file may say; the tests; what an accepted file says; places; the insert; a read in numbers; reading on.
+-- In document 01's order: an answer; the rules; the model of a file and its layout; what a file may say; the tests; what an accepted file says; places; the insert; a read in numbers; reading on; a read by its position; writing.
 pub mod Answer
 pub mod Rules
 pub mod Model
@@ -11,3 +11,5 @@ pub mod Places
 pub mod Insert
 pub mod View
 pub mod Step
+pub mod Position
+pub mod Writing

@@ -1,5 +1,5 @@
 -- The fields of the read at place p, and a read's tests in document 01's order. Assumes nothing: these are definitions.
-use Prim.Native.Nat.{ℕ, _+_, _-_, _*_}
+use Prim.Native.Nat.{ℕ, _+_, _*_}
 use mathlib.Core.Bool.{Bool, not}
 use mathlib.Core.List.{List}
 use lib.ListN.{length}
@@ -8,7 +8,7 @@ use Rattle.octets.specs.Parts.{part, up8}
 use Rattle.octets.specs.Numbers.{number}
 use Rattle.octets.specs.Scans.{firstNot, isNameByte, isZero}
 use Rattle.sff_format.specs.declared.Answer.{Answer}
-use Rattle.sff_format.specs.Answer.{when, stopped, _then_}
+use Rattle.sff_format.specs.Answer.{when, stopped, shifted, _then_}
 use Rattle.sff_format.specs.Rules.{leftLimit, rightLimit, walkRun, callRun}
 
 -- the length of its header section
@@ -51,26 +51,18 @@ clipTest p n quality-left quality-right adapter-left adapter-right =
     then when (ltb (leftLimit n) adapter-left) 9 (p + 12)
     then when (ltb (rightLimit n) adapter-right) 9 (p + 14)
 
--- "The walk stops at the first base that breaks this": the place of its index byte among those from `from` to before `to`, or `to`
-unfoldable pub walk : ℕ → ℕ → ℕ → ℕ → List ℕ → ℕ
-walk F f from to b = from + walkRun F f (part from (to - from) b)
-
--- the place of the first wrong base among those from `at` to before `to`, whose index bytes stand from `from` on, or `to`
-unfoldable pub calls : List ℕ → ℕ → ℕ → ℕ → ℕ → List ℕ → ℕ
-calls characters f from at to b = at + callRun characters f (part from (to - at) b) (part at (to - at) b)
-
--- 10, 11: n index bytes from `at` on, and the n bases after them
-unfoldable pub basesTest : List ℕ → List ℕ → ℕ → ℕ → Answer
-basesTest characters b at n =
-    stopped 10 (walk (length characters) 0 at (at + n) b) (at + n)
-    then stopped 11 (calls characters 0 at (at + n) (at + n + n) b) (at + n + n)
+-- 10, 11: increments xs and the bases ys that follow them, places counted from the first increment. "The walk stops at the first base that breaks this"
+unfoldable pub basesTest : List ℕ → List ℕ → List ℕ → Answer
+basesTest characters xs ys =
+    stopped 10 (walkRun (length characters) 0 xs) (length xs)
+    then stopped 11 (length xs + callRun characters 0 xs ys) (length xs + length ys)
 
 -- 1, 10, 11, 7: a data section at place d, of n bases
 unfoldable pub dataTest : List ℕ → List ℕ → ℕ → ℕ → Answer
 dataTest characters b d n =
     let F = length characters in
     when (ltb (length b) (d + up8 (2 * F + 3 * n))) 1 d
-    then basesTest characters b (d + 2 * F) n
+    then shifted (d + 2 * F) (basesTest characters (part (d + 2 * F) n b) (part (d + 2 * F + n) n b))
     then stopped 7 (firstNot isZero (d + (2 * F + 3 * n)) (d + up8 (2 * F + 3 * n)) b) (d + up8 (2 * F + 3 * n))
 
 -- "Read: 1 (under 16 bytes), 5, 1, 6, 7, 9, 1 (data), 10, 11, 7"

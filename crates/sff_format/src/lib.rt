@@ -25,3 +25,17 @@ pub struct ReadView {
     pub adapter_left: usize,
     pub adapter_right: usize,
 }
+
+// The clips of a read that is to be written, in file order.
+pub struct Clips {
+    pub quality_left: u16,
+    pub quality_right: u16,
+    pub adapter_left: u16,
+    pub adapter_right: u16,
+}
+
+// What a writer answers: its refusal or none, and the file's length afterwards.
+pub struct Outcome {
+    pub answer: Answer,
+    pub length: usize,
+}

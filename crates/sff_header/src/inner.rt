@@ -38,5 +38,3 @@ pub fn index_size(length: usize) -> usize
 {
     length
 }
-
-// Whether no index may have this length.

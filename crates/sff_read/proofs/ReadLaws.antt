@@ -1,5 +1,6 @@
 -- What the definitions of a read's tests tell the code. Assumes nothing.
-use Prim.Native.Nat.{ℕ, _+_, _*_, _≤_}
+use Prim.Native.Nat.{ℕ, _+_, _-_, _*_, _≤_}
+use native.Mathlib.Omega.{arith}
 use mathlib.Core.Path.{_≡_, sym, _∙_}
 use mathlib.Core.List.{List}
 use lib.Dec.{ltb}
@@ -10,9 +11,9 @@ use Rattle.octets.specs.Scans.{firstNot, isZero}
 use Rattle.octets.proofs.Lists.{length-part}
 use Rattle.sff_format.specs.declared.Answer.{Answer}
 use Rattle.sff_format.specs.declared.Answer.the-variants.{Accepted, Refused}
-use Rattle.sff_format.specs.Answer.{when, stopped, _then_}
+use Rattle.sff_format.specs.Answer.{when, stopped, shifted, _then_}
 use Rattle.sff_format.specs.ReadTest.{sectionLength, nameLength, nameTest, clipTest, basesTest, dataTest, readTest}
-use Rattle.sff_format.proofs.Answers.{first-ok, second-ok, under-ok}
+use Rattle.sff_format.proofs.Answers.{first-ok, second-ok, under-ok, bases-in}
 use Rattle.sff_read.specs.declared.inner.ReadFields.{ReadFields}
 use Rattle.sff_read.specs.Fields.{FieldsAt}
 
@@ -53,7 +54,30 @@ module _ {b : List ℕ} {p : ℕ} {r : ReadFields} (f : FieldsAt b p r) (charact
 pub data-by-flows : (b : List ℕ) (F d n : ℕ) → 31 + F ≤ length b
     → dataTest (part 31 F b) b d n
     ≡ (when (ltb (length b) (d + up8 (2 * F + 3 * n))) 1 d
-    then basesTest (part 31 F b) b (d + 2 * F) n
+    then shifted (d + 2 * F) (basesTest (part 31 F b) (part (d + 2 * F) n b) (part (d + 2 * F + n) n b))
     then stopped 7 (firstNot isZero (d + (2 * F + 3 * n)) (d + up8 (2 * F + 3 * n)) b) (d + up8 (2 * F + 3 * n)))
 unfolding dataTest
 data-by-flows b F d n h = rw (length-part 31 F b h)
+
+-- increments and bases tested as parts of the file
+module _ (b : List ℕ) (F at n : ℕ) {a : Answer}
+    (e : a ≡ basesTest (part 31 (31 + F - 31) b) (part at (at + n - at) b) (part (at + n) (at + n + n - (at + n)) b)) where
+  called : a ≡ basesTest (part 31 F b) (part at n b) (part (at + n) n b)
+  called =
+      let f : 31 + F - 31 ≡ F = omega arith in
+      let g : at + n - at ≡ n = omega arith in
+      let h : at + n + n - (at + n) ≡ n = omega arith in
+      rw (f, g, h) at e
+
+  pub called-all : a ≡ Accepted → a ≡ shifted at (basesTest (part 31 F b) (part at n b) (part (at + n) n b))
+  unfolding shifted
+  called-all t = t ∙ sym (rw (← called, t))
+
+  pub called-stop : {m p : ℕ} → a ≡ Refused m p → Refused m (at + p) ≡ shifted at (basesTest (part 31 F b) (part at n b) (part (at + n) n b))
+  unfolding shifted
+  called-stop t = sym (rw (← called, t))
+
+  pub called-in : {m p : ℕ} → a ≡ Refused m p → at + n + n ≤ length b → at + p ≤ length b
+  called-in {m} {p} t h =
+      let l = bases-in (part 31 F b) (part at n b) (part (at + n) n b) m p (sym called ∙ t) in
+      omega (arith, l, length-part at n b (omega arith), length-part (at + n) n b (omega arith))

@@ -4,7 +4,8 @@ ghost use Prim.Native.Nat.{_+_, _*_, _≤_, _<_};
 ghost use lib.ListN.{length};
 ghost use Rattle.octets.specs.Parts.{part, up8};
 ghost use Rattle.sff_format.specs.Rules.{leftLimit, rightLimit};
-ghost use Rattle.sff_format.specs.ReadTest.{nameTest, clipTest, dataTest, readTest, readEnd};
+ghost use Rattle.sff_format.specs.Answer.{shifted};
+ghost use Rattle.sff_format.specs.ReadTest.{nameTest, clipTest, basesTest, dataTest, readTest, readEnd};
 ghost use Rattle.sff_format.specs.View.{viewAt};
 ghost use Rattle.sff_read.specs.Fields.{FieldsAt};
 use octets::ByteTest;
@@ -115,6 +116,25 @@ fn clip_test(
     Answer::Accepted
 }
 
+// 10, 11: the increments at `at` and the bases after them.
+fn called_test(s: &[u8], at: usize, bases: usize, flows: usize) -> Answer
+    requires { ⌜ (at + bases + bases ≤ length (now s)) × (bases < 4294967296) × (flows < 65536) × (31 + flows ≤ length (now s)) ⌝ }
+    ensures { λ r. ⌜ r ≡ shifted at (basesTest (part 31 flows (now (s .entry))) (part at bases (now (s .entry))) (part (at + bases) bases (now (s .entry)))) ⌝ }
+{
+    let increments_end = at + bases;
+    let characters = &s[31..31 + flows];
+    let increments = &s[at..increments_end];
+    let called = bases_test(
+        characters,
+        increments,
+        &s[increments_end..increments_end + bases],
+    );
+    let Answer::Refused(number, place) = called else {
+        return called;
+    };
+    Answer::Refused(number, at + place)
+}
+
 // 1, 10, 11, 7
 fn data_test(s: &[u8], d: usize, bases: usize, flows: usize) -> Answer
     requires { ⌜ (d ≤ length (now s)) × (bases < 4294967296) × (flows < 65536) × (31 + flows ≤ length (now s)) ⌝ }
@@ -125,7 +145,7 @@ fn data_test(s: &[u8], d: usize, bases: usize, flows: usize) -> Answer
     if s.len() < end {
         return Answer::Refused(1, d);
     }
-    let called = bases_test(s, d + 2 * flows, bases, flows);
+    let called = called_test(s, d + 2 * flows, bases, flows);
     let Answer::Accepted = called else {
         return called;
     };

@@ -8,10 +8,10 @@ use Rattle.sff_walk.proofs.inner.bases_test.Statement.{statement}
 use Rattle.sff_walk.proofs.inner.bases_test.Tie as tie
 
 abbrev Inv-loop : tie.InvT-loop
-Inv-loop s at bases flows base₀ flow₀ base flow = Matched flows at bases s (base .0) (flow .0)
+Inv-loop characters increments bases flows count base₀ flow₀ base flow = Matched characters increments bases (base .0) (flow .0)
 
 abbrev μ-loop : tie.MeasureT-loop
-μ-loop s at bases flows base₀ flow₀ base flow = bases + 1 - base .0
+μ-loop characters increments bases flows count base₀ flow₀ base flow = count + 1 - base .0
 
 pub bases-test-spec : {M : Type 1} → statement M
 bases-test-spec =
@@ -22,10 +22,8 @@ bases-test-spec =
     (λ c. search matching)
     (λ c. search matching)
     (λ c. search matching)
-    (λ c. search matching)
     (λ c κs. search matching)
     (λ c κs. search matching)
-    (λ c. search matching)
     (λ c. search matching)
     (λ c. search matching)
     (λ c. search matching)

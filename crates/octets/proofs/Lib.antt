@@ -7,4 +7,5 @@ pub mod Stands
 pub mod Inserts
 pub mod Moves
 pub mod Scan
+pub mod Every
 pub mod Same

@@ -9,7 +9,7 @@ use native.Mathlib.Numerals.{add-one}
 use native.Mathlib.Omega.{arith}
 use borrow.Author.Tests.{le-leb, lt-leb}
 use lib.ListN.{length, take, drop, set, getD, length-append, length-take, length-drop, length-set, take-append-drop, replicate, length-replicate, replicate-append-replicate, List·getD-append}
-use lib.Seq.{sets, sets-eq, drop-cons, length-take-le, take-suc, set-at, append-snoc, getD-append-add, getD-take, getD-drop, set-split, take-set-le, drop-set-lt, take-at, drop-at, drop-drop, take-take, take-add, take-append-le, drop-append-le}
+use lib.Seq.{sets, sets-eq, drop-cons, length-take-le, take-suc, set-at, append-snoc, getD-append-add, getD-take, getD-drop, set-split, take-set-le, drop-set-lt, take-at, drop-at, drop-drop, take-take, take-add, take-append-seam, take-append-le, drop-append-le}
 use Rattle.octets.specs.Parts.{part, wholePart, putAt}
 
 -- the first of the elements of a part, and the rest
@@ -96,6 +96,19 @@ put-before at n xs ys l e h =
       ← append-assoc,
       ← append-assoc,
     )
+
+-- a list put at the front is the front
+pub take-front : (xs l : List ℕ) → take (length xs) (putAt 0 xs l) ≡ xs
+unfolding putAt
+take-front xs l = take-append-seam xs (drop (0 + length xs) l)
+
+-- a write within what was put at the front
+pub put-front : (at : ℕ) (xs us l : List ℕ) → at + length xs ≤ length us → putAt at xs (putAt 0 us l) ≡ putAt 0 (putAt at xs us) l
+unfolding putAt
+put-front at xs us l h =
+    let e : length (take at us ++ xs ++ drop (at + length xs) us) ≡ length us = length-put at xs us h in
+    rw (take-append-le at us (drop (0 + length us) l) (omega arith), drop-append-le (at + length xs) us (drop (0 + length us) l) h, e) (simp append-assoc)
+
 
 -- the front of a list up to the end of what was put
 pub take-put : (at n : ℕ) (xs l : List ℕ) → length xs ≡ n → at + n ≤ length l → take (at + n) (putAt at xs l) ≡ take at l ++ xs

@@ -48,7 +48,7 @@ module _ (b : List ℕ) (head : headerTest b ≡ Accepted) where
       let l : length b - p ≡ 0 = sym (length-drop p b) ∙ ap length e in
       both-ok _ _ (ok-when _ _ _ d) (ok-under p (length b) _ _ (omega arith))
 
-  -- a boundary with no index to pass, at which a read stands
+  -- a boundary with no index to pass, at which a read header-first
   module _ (r : Read) (rs : List Read) (p : ℕ) (q : Bool) (h : indexHere b p q ≡ false) (v : ValidRead (flowCharacters b) r) (l : p ≤ length b) (s : Stands p (layoutRead r) b) where
     read-next : readEnd (flows b) b p ≡ p + length (layoutRead r)
     read-next = rw (characters-length b head) at (read-size (flowCharacters b) b p r v l s)
@@ -185,16 +185,16 @@ module _ (f : File) (v : Valid f) where
   t : Bool
   t = declared (f .index .offset) (length (f .index .bytes))
 
-  stands : Stands 0 (layoutHeader f) (layout f)
+  pub header-first : Stands 0 (layoutHeader f) (layout f)
   unfolding t
-  stands = header-stands t refl
+  header-first = header-stands t refl
 
   -- LAW b: the layout of a file that keeps the rules is accepted
   pub file-taken : fileTest (layout f) ≡ Accepted
   unfolding fileTest t
   file-taken =
       both-ok _ _ (header-ok t refl)
-      (rw (count-is (layout f) f v stands, size-is t refl) (sections t refl .0))
+      (rw (count-is (layout f) f v header-first, size-is t refl) (sections t refl .0))
 
   index-stands : Stands (f .index .offset) (layoutIndex (f .index)) (layout f)
   unfolding layout t
@@ -209,18 +209,18 @@ module _ (f : File) (v : Valid f) where
   index-back : part (indexOffset (layout f)) (indexLength (layout f)) (layout f) ≡ f .index .bytes
   unfolding layoutIndex filled
   index-back =
-      rw (offset-is (layout f) f v stands, index-length-is (layout f) f v stands)
+      rw (offset-is (layout f) f v header-first, index-length-is (layout f) f v header-first)
       (stands-left (f .index .offset) (f .index .bytes) _ (layout f) offset-in index-stands)
 
   -- and read back
   pub file-back : parse (layout f) ≡ f
   unfolding parse t
   file-back = rw (
-    count-is (layout f) f v stands,
+    count-is (layout f) f v header-first,
     size-is t refl,
     sections t refl .1,
     index-back,
-    offset-is (layout f) f v stands,
-    characters-are (layout f) f v stands,
-    key-is (layout f) f v stands,
+    offset-is (layout f) f v header-first,
+    characters-are (layout f) f v header-first,
+    key-is (layout f) f v header-first,
   )

@@ -19,5 +19,9 @@ pub mod Places
 pub mod Views
 pub mod Inserted
 pub mod Steps
+-- Writing: a read appended, and one that is lent to be written.
+pub mod Appended
+pub mod Given
+pub mod Writers
 -- No refusal has the number 0.
 pub mod Refusals

@@ -14,13 +14,9 @@ use Rattle.sff_format.specs.Model.{Read, File, layoutRead, layoutReads, 
 use Rattle.sff_format.specs.Rules.{declared}
 use Rattle.sff_format.specs.Valid.{Valid}
 use Rattle.sff_format.specs.Places.{noRead, readAt, place}
+use Rattle.sff_format.proofs.Appended.{reads-append}
 use Rattle.sff_format.proofs.Boundaries.{undeclared}
 use Rattle.sff_format.proofs.FileTaken.{front-le, read-some}
-
-reads-append : (us ws : List Read) → layoutReads (us ++ ws) ≡ layoutReads us ++ layoutReads ws
-unfolding layoutReads
-reads-append [] ws = refl
-reads-append (u ∷ us) ws = rw (reads-append us ws, append-assoc)
 
 -- more reads, more bytes
 front-mono : (k i : ℕ) (rs : List Read) → k ≤ i → length (layoutReads (take k rs)) ≤ length (layoutReads (take i rs))

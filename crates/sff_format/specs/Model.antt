@@ -71,3 +71,7 @@ layoutIndex x = filled (indexSize (length (x .bytes))) (x .bytes)
 -- a list of reads in order. An index stands at its offset"
 unfoldable pub layout : File → List ℕ
 layout f = insertAt (f .index .offset) (layoutIndex (f .index)) (layoutHeader f ++ layoutReads (f .reads))
+
+-- the same file with other reads
+abbrev pub withReads : List Read → File → File
+withReads rs f = record { flow-characters = f .flow-characters; key = f .key; index = f .index; reads = rs }

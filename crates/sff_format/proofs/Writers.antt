@@ -1,0 +1,197 @@
+-- A new file and an append for each read leave the file written afresh; a read is refused exactly if no accepted file could hold it. Assumes nothing.
+use Prim.Native.Nat.{ℕ, _+_, _≤_, _<_}
+use mathlib.Core.Path.{_≡_, refl, sym, ap, _∙_}
+use mathlib.Core.Bool.{true, false, _||_}
+use mathlib.Core.Logic.{_↔_}
+use mathlib.Core.List.{List, [], _∷_, _++_, append-assoc, append-nil}
+use native.Mathlib.Omega.{arith}
+use lib.ListN.{length, take, length-append}
+use lib.Dec.{eqb}
+use borrow.Author.Tests.{ne-eqb}
+use Rattle.octets.specs.Parts.{putAt, up8}
+use Rattle.octets.specs.Numbers.{Bytes, bytesOf}
+use Rattle.octets.specs.Scans.{Every, isFlowCharacter}
+use Rattle.octets.proofs.Lists.{length-put, put-next, take-front, put-front}
+use Rattle.octets.proofs.Digits.{length-bytesOf}
+use Rattle.sff_format.specs.declared.Answer.{Answer}
+use Rattle.sff_format.specs.declared.Answer.the-variants.{Accepted, Refused}
+use Rattle.sff_format.specs.declared.Outcome.{Outcome}
+use Rattle.sff_format.specs.Answer.{_then_}
+use Rattle.sff_format.specs.Rules.{declared, badIndex}
+use Rattle.sff_format.specs.Model.{Read, Index, File, noIndex, layoutRead, layoutReads, layoutHeader, layout, withReads}
+use Rattle.sff_format.specs.Valid.{ValidRead, ValidReads, Valid}
+use Rattle.sff_format.specs.HeaderTest.{indexOffset, indexLength, readCount, flowCharacters}
+use Rattle.sff_format.specs.FileTest.{fileTest}
+use Rattle.sff_format.specs.Parse.{parse}
+use Rattle.sff_format.specs.Position.{acceptedOr}
+use Rattle.sff_format.specs.Writing.{newFile, newTest, newOutcome, newBuffer, givenTest, appendTest, appendOutcome, appendBuffer, Left, appendEach, writeEach}
+use Rattle.sff_format.proofs.Answers.{both-ok, ok-when, ok-under}
+use Rattle.sff_format.proofs.Sizes.{length-header}
+use Rattle.sff_format.proofs.HeaderLaws.{offset-is, index-length-is, count-is, characters-are}
+use Rattle.sff_format.proofs.FileTaken.{header-first, file-taken}
+use Rattle.sff_format.proofs.Appended.{reads-append, layout-plain, appended}
+use Rattle.sff_format.proofs.Given.{valid-given}
+
+-- a file with no index
+abbrev plain : List ℕ → List ℕ → List Read → File
+plain characters key rs = withReads rs (newFile characters key)
+
+undeclared : declared 0 0 ≡ false
+unfolding declared
+undeclared = refl
+
+-- it keeps the rules where its characters, their number, the count and the reads do
+pub plain-valid : (characters key : List ℕ) (rs : List Read) → Every isFlowCharacter (characters ++ key) → up8 (31 + length characters + length key) < 65536
+    → length rs < 4294967296 → ValidReads characters rs → Valid (plain characters key rs)
+unfolding badIndex declared
+plain-valid characters key rs c h n g = record {
+  characters-good = c;
+  header-fits = h;
+  count-fits = n;
+  index-fits = (omega arith, omega arith, tt);
+  index-good = refl;
+  index-met = λ e. absurd (let z : _≡_ {A = ℕ} 0 1 = cc in let a : ⊥ = omega arith in a);
+  reads-good = g;
+}
+
+valid-left : (characters : List ℕ) (us ws : List Read) → ValidReads characters (us ++ ws) → ValidReads characters us
+valid-left characters [] ws g = tt
+valid-left characters (u ∷ us) ws g = (g .0, valid-left characters us ws (g .1))
+
+valid-next : (characters : List ℕ) (us : List Read) (r : Read) (ws : List Read) → ValidReads characters (us ++ (r ∷ ws)) → ValidRead characters r
+valid-next characters [] r ws g = g .0
+valid-next characters (u ∷ us) r ws g = valid-next characters us r ws (g .1)
+
+-- what is left where a file has been written at the front of a buffer
+abbrev written : List ℕ → File → Left
+written buffer f = record { outcome = record { answer = Accepted; length = length (layout f) }; buffer = putAt 0 (layout f) buffer }
+
+module _ (characters key : List ℕ) (us : List Read) where
+  -- the header alone has room for the count
+  header-room : 31 ≤ length (layout (plain characters key us))
+  header-room = rw (layout-plain (plain characters key us) refl, length-append, length-header (plain characters key us)) (omega arith)
+
+  valid-front : (ws : List Read) → Valid (plain characters key (us ++ ws)) → Valid (plain characters key us)
+  valid-front ws v =
+      let l : length (us ++ ws) ≡ length us + length ws = length-append us ws in
+      let n = v .count-fits in
+      plain-valid characters key us (v .characters-good) (v .header-fits) (omega (arith, l, n)) (valid-left characters us ws (v .reads-good))
+
+  module _ (r : Read) where
+    abbrev more : List ℕ
+    more = bytesOf 4 (length us + 1)
+
+    -- the file with one read more, as an append writes it
+    one-more : layout (plain characters key (us ++ (r ∷ []))) ≡ putAt 20 more (layout (plain characters key us) ++ layoutRead r)
+    one-more = appended (plain characters key us) r refl
+
+    room : 20 + length more ≤ length (layout (plain characters key us) ++ layoutRead r)
+    room = let h = header-room in rw (length-bytesOf, length-append) (omega arith)
+
+    length-more : length (layout (plain characters key (us ++ (r ∷ [])))) ≡ length (layout (plain characters key us)) + length (layoutRead r)
+    length-more = rw (one-more, length-put 20 more (layout (plain characters key us) ++ layoutRead r) room, length-append)
+
+    module _ (buffer : List ℕ) (fits : length (layout (plain characters key us)) ≤ length buffer) where
+      -- an append writes the file with one read more where the file stood
+      appended-in : putAt 20 more (putAt (length (layout (plain characters key us))) (layoutRead r) (putAt 0 (layout (plain characters key us)) buffer))
+          ≡ putAt 0 (layout (plain characters key (us ++ (r ∷ [])))) buffer
+      appended-in =
+          let L = layout (plain characters key us) in
+          let p : putAt (length L) (layoutRead r) (putAt 0 L buffer) ≡ putAt 0 (L ++ layoutRead r) buffer =
+          let z : 0 + length L ≡ length L = omega arith in rw z at (put-next 0 (length L) L (layoutRead r) buffer refl (omega arith)) in
+          rw (p, one-more) (put-front 20 more (L ++ layoutRead r) buffer room)
+
+-- an append is carried out where no reason to refuse holds
+append-ok : (buffer : List ℕ) (len : ℕ) (r : Read) → len ≤ length buffer → fileTest (take len buffer) ≡ Accepted
+    → declared (indexOffset (take len buffer)) (indexLength (take len buffer)) ≡ false → eqb (readCount (take len buffer)) 4294967295 ≡ false
+    → givenTest (flowCharacters (take len buffer)) r ≡ Accepted → len + length (layoutRead r) ≤ length buffer → appendTest buffer len r ≡ Accepted
+unfolding appendTest
+append-ok buffer len r h f i n g m =
+    both-ok _ _ (ok-under (length buffer) len _ _ h)
+    (both-ok _ _ f (both-ok _ _ (ok-when _ _ _ i) (both-ok _ _ (ok-when _ _ _ n) (both-ok _ _ g (ok-under (length buffer) (len + length (layoutRead r)) _ _ m)))))
+
+append-done : (buffer : List ℕ) (len : ℕ) (r : Read) → appendTest buffer len r ≡ Accepted
+    → appendOutcome buffer len r ≡ record { answer = Accepted; length = len + length (layoutRead r) }
+unfolding appendOutcome acceptedOr
+append-done buffer len r e = rw e
+
+append-left : (buffer : List ℕ) (len : ℕ) (r : Read) → appendTest buffer len r ≡ Accepted
+    → appendBuffer buffer len r ≡ putAt 20 (bytesOf 4 (readCount (take len buffer) + 1)) (putAt len (layoutRead r) buffer)
+unfolding appendBuffer acceptedOr
+append-left buffer len r e = rw e
+
+module _ (characters key buffer : List ℕ) (us : List Read) (r : Read) (v : Valid (plain characters key (us ++ (r ∷ []))))
+    (fits : length (layout (plain characters key (us ++ (r ∷ [])))) ≤ length buffer) where
+  abbrev f : File
+  f = plain characters key us
+
+  abbrev L : List ℕ
+  L = layout f
+
+  abbrev B : List ℕ
+  B = putAt 0 L buffer
+
+  good : Valid f
+  good = valid-front characters key us (r ∷ []) v
+
+  front : take (length L) B ≡ L
+  front = take-front L buffer
+
+  size : length L + length (layoutRead r) ≤ length buffer
+  size = rw (length-more characters key us r) at fits
+
+  whole : length B ≡ length buffer
+  whole = length-put 0 L buffer (omega (arith, size))
+
+  counted : readCount (take (length L) B) ≡ length us
+  counted = ap readCount front ∙ count-is (layout (plain characters key us)) (plain characters key us) good (header-first (plain characters key us) good)
+
+  no-index : declared (indexOffset (take (length L) B)) (indexLength (take (length L) B)) ≡ false
+  no-index =
+      let g = plain characters key us in
+      let o : indexOffset (take (length (layout g)) B) ≡ 0 = ap indexOffset front ∙ offset-is (layout g) g good (header-first g good) in
+      let l : indexLength (take (length (layout g)) B) ≡ 0 = ap indexLength front ∙ index-length-is (layout g) g good (header-first g good) in
+      rw (o, l) undeclared
+
+  given : givenTest (flowCharacters (take (length L) B)) r ≡ Accepted
+  given =
+      let g = plain characters key us in
+      let c : flowCharacters (take (length (layout g)) B) ≡ characters = ap flowCharacters front ∙ characters-are (layout g) g good (header-first g good) in
+      rw c (valid-given characters r (valid-next characters us r [] (v .reads-good)))
+
+  below : eqb (readCount (take (length L) B)) 4294967295 ≡ false
+  below =
+      let n = v .count-fits in
+      let l : length (us ++ (r ∷ [])) ≡ length us + 1 = length-append us (r ∷ []) in
+      rw counted (ne-eqb (length us) 4294967295 (λ e. let a : ⊥ = omega (arith, n, l, e) in a))
+
+  accepted : appendTest B (length L) r ≡ Accepted
+  accepted =
+      append-ok B (length L) r (rw whole (omega (arith, size))) (ap fileTest front ∙ file-taken f good) no-index below given (rw whole size)
+
+  -- what an append leaves is the file with one read more
+  next-outcome : appendOutcome B (length L) r ≡ record { answer = Accepted; length = length (layout (plain characters key (us ++ (r ∷ [])))) }
+  next-outcome = append-done B (length L) r accepted ∙ rw (length-more characters key us r)
+
+  next-buffer : appendBuffer B (length L) r ≡ putAt 0 (layout (plain characters key (us ++ (r ∷ [])))) buffer
+  next-buffer = append-left B (length L) r accepted ∙ rw counted (appended-in characters key us r buffer (omega (arith, size)))
+
+-- more reads, more bytes
+layout-le : (characters key : List ℕ) (us ws : List Read) → length (layout (plain characters key us)) ≤ length (layout (plain characters key (us ++ ws)))
+layout-le characters key us ws =
+    let f = plain characters key us in
+    let g = plain characters key (us ++ ws) in
+    rw (layout-plain f refl, layout-plain g refl, length-append, length-append, length-header f, length-header g, reads-append us ws, length-append) (omega arith)
+
+each-written : (characters key buffer : List ℕ) (us ws : List Read) → Valid (plain characters key (us ++ ws)) → length (layout (plain characters key (us ++ ws))) ≤ length buffer
+    → appendEach (written buffer (plain characters key us)) ws ≡ written buffer (plain characters key (us ++ ws))
+unfolding appendEach acceptedOr
+each-written characters key buffer us [] v h = rw append-nil
+each-written characters key buffer us (r ∷ rs) v h =
+    let e : (us ++ (r ∷ [])) ++ rs ≡ us ++ (r ∷ rs) = append-assoc us (r ∷ []) rs in
+    let w : Valid (plain characters key ((us ++ (r ∷ [])) ++ rs)) = rw e v in
+    let k : length (layout (plain characters key ((us ++ (r ∷ [])) ++ rs))) ≤ length buffer = rw e h in
+    let x = valid-front characters key (us ++ (r ∷ [])) rs w in
+    let l : length (layout (plain characters key (us ++ (r ∷ [])))) ≤ length buffer = let m = layout-le characters key (us ++ (r ∷ [])) rs in omega arith in
+    rw (next-outcome characters key buffer us r x l, next-buffer characters key buffer us r x l)
+    (each-written characters key buffer (us ++ (r ∷ [])) rs w k ∙ rw e)

@@ -8,21 +8,14 @@ use lib.ListN.{length}
 use lib.Dec.{ltb, eqb}
 use borrow.Author.Tests.{not-false, ltb-false, le-ltb, eqb-true, eq-eqb}
 use Rattle.octets.specs.Parts.{up8}
-use Rattle.octets.specs.Numbers.{Bytes, Words}
 use Rattle.octets.specs.Scans.{isNameByte}
 use Rattle.octets.proofs.Every.{none-fails, every-passes}
 use Rattle.sff_format.specs.declared.Answer.the-variants.{Accepted}
 use Rattle.sff_format.specs.Model.{Read}
 use Rattle.sff_format.specs.Valid.{ValidRead}
 use Rattle.sff_format.specs.ReadTest.{clipTest}
-use Rattle.sff_format.specs.Writing.{badCounts, givenTest}
+use Rattle.sff_format.specs.Writing.{givenTest, Lent}
 use Rattle.sff_format.proofs.Answers.{first-ok, second-ok, both-ok, when-ok, ok-when, under-ok, ok-under, own-ok, ok-own, walk-ok, calls-ok, ok-bases}
-
--- what slices of bytes and of 16-bit numbers can hold
-pub record Lent (r : Read) : Type 0 where
-  pub clips-fit : Words (r .quality-left ∷ r .quality-right ∷ r .adapter-left ∷ r .adapter-right ∷ [])
-  pub values-fit : Words (r .values)
-  pub bytes-good : Bytes (r .increments) × Bytes (r .bases) × Bytes (r .qualities)
 
 or-left : (s t : Bool) → (s || t) ≡ false → s ≡ false
 or-left true t e = e

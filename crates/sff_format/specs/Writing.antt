@@ -1,13 +1,15 @@
 -- "Writing": a new file, an append, and a file written by these. Assumes nothing: these are definitions.
-use Prim.Native.Nat.{ℕ, _+_}
+use Prim.Native.Nat.{ℕ, _+_, _<_}
+use mathlib.Core.Path.{_≡_}
 use mathlib.Core.Bool.{Bool, not, _||_}
 use mathlib.Core.List.{List, [], _∷_}
 use lib.ListN.{length, take}
 use lib.Dec.{ltb, eqb}
 use Rattle.octets.specs.Parts.{putAt}
-use Rattle.octets.specs.Numbers.{bytesOf}
+use Rattle.octets.specs.Numbers.{Bytes, bytesOf, Words}
 use Rattle.octets.specs.Scans.{fails, isFlowCharacter, isNameByte}
 use Rattle.sff_format.specs.declared.Answer.{Answer}
+use Rattle.sff_format.specs.declared.Answer.the-variants.{Accepted}
 use Rattle.sff_format.specs.declared.Outcome.{Outcome}
 use Rattle.sff_format.specs.declared.Clips.{Clips}
 use Rattle.sff_format.specs.Answer.{when, own, _then_}
@@ -16,6 +18,8 @@ use Rattle.sff_format.specs.Model.{Read, File, noIndex, layoutRead, layo
 use Rattle.sff_format.specs.HeaderTest.{indexOffset, indexLength, readCount, flowCharacters}
 use Rattle.sff_format.specs.ReadTest.{clipTest, basesTest}
 use Rattle.sff_format.specs.FileTest.{fileTest}
+use Rattle.sff_format.specs.Parse.{parse}
+use Rattle.sff_format.specs.Places.{readAt}
 use Rattle.sff_format.specs.Position.{acceptedOr}
 
 -- "also answers the file's length afterwards (the length given if nothing is done; 0 for a refused new file)"
@@ -106,3 +110,19 @@ appendEach w (r ∷ rs) =
 unfoldable pub writeEach : List ℕ → File → Left
 writeEach buffer f =
     appendEach (record { outcome = newOutcome buffer (f .flow-characters) (f .key); buffer = newBuffer buffer (f .flow-characters) (f .key) }) (f .reads)
+
+-- an accepted file with these flow characters that holds the read
+pub record Holder (characters : List ℕ) (r : Read) : Type 0 where
+  pub file : List ℕ
+  pub bytes : Bytes file
+  pub accepted : fileTest file ≡ Accepted
+  pub characters-same : flowCharacters file ≡ characters
+  pub position : ℕ
+  pub inside : position < readCount file
+  pub holds : readAt (parse file) position ≡ r
+
+-- what slices of bytes and of 16-bit numbers can hold
+pub record Lent (r : Read) : Type 0 where
+  pub clips-fit : Words (r .quality-left ∷ r .quality-right ∷ r .adapter-left ∷ r .adapter-right ∷ [])
+  pub values-fit : Words (r .values)
+  pub bytes-good : Bytes (r .increments) × Bytes (r .bases) × Bytes (r .qualities)

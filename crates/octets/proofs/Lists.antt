@@ -109,7 +109,6 @@ put-front at xs us l h =
     let e : length (take at us ++ xs ++ drop (at + length xs) us) ≡ length us = length-put at xs us h in
     rw (take-append-le at us (drop (0 + length us) l) (omega arith), drop-append-le (at + length xs) us (drop (0 + length us) l) h, e) (simp append-assoc)
 
-
 -- the front of a list up to the end of what was put
 pub take-put : (at n : ℕ) (xs l : List ℕ) → length xs ≡ n → at + n ≤ length l → take (at + n) (putAt at xs l) ≡ take at l ++ xs
 unfolding putAt

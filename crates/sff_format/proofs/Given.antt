@@ -17,11 +17,11 @@ use Rattle.sff_format.specs.ReadTest.{clipTest}
 use Rattle.sff_format.specs.Writing.{givenTest, Lent}
 use Rattle.sff_format.proofs.Answers.{first-ok, second-ok, both-ok, when-ok, ok-when, under-ok, ok-under, own-ok, ok-own, walk-ok, calls-ok, ok-bases}
 
-or-left : (s t : Bool) → (s || t) ≡ false → s ≡ false
+pub or-left : (s t : Bool) → (s || t) ≡ false → s ≡ false
 or-left true t e = e
 or-left false t e = refl
 
-or-right : (s t : Bool) → (s || t) ≡ false → t ≡ false
+pub or-right : (s t : Bool) → (s || t) ≡ false → t ≡ false
 or-right true t e = absurd (let z : _≡_ {A = ℕ} 0 1 = cc in let a : ⊥ = omega arith in a)
 or-right false t e = e
 
@@ -34,8 +34,7 @@ unfolding bad
 counts-ok v F x n q e =
     let l = or-left (not (eqb v F) || not (eqb x n)) (not (eqb q n) || ltb 4294967295 n) e in
     let r = or-right (not (eqb v F) || not (eqb x n)) (not (eqb q n) || ltb 4294967295 n) e in
-    let h : n ≤ 4294967295 = ltb-false 4294967295 n (or-right (not (eqb q n)) (ltb 4294967295 n) r) in
-    (
+    let h : n ≤ 4294967295 = ltb-false 4294967295 n (or-right (not (eqb q n)) (ltb 4294967295 n) r) in (
       eqb-true v F (not-false (eqb v F) (or-left (not (eqb v F)) (not (eqb x n)) l)),
       eqb-true x n (not-false (eqb x n) (or-right (not (eqb v F)) (not (eqb x n)) l)),
       eqb-true q n (not-false (eqb q n) (or-left (not (eqb q n)) (ltb 4294967295 n) r)),

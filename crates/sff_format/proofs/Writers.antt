@@ -7,14 +7,14 @@ use mathlib.Core.List.{List, [], _∷_, _++_, append-assoc, append-nil}
 use native.Mathlib.Omega.{arith}
 use lib.ListN.{length, take, getD, length-append}
 use lib.Dec.{eqb}
-use borrow.Author.Tests.{ne-eqb}
+use borrow.Author.Tests.{ne-eqb, eqb-false}
 use Rattle.octets.specs.Parts.{putAt, up8}
 use Rattle.octets.specs.Numbers.{Bytes, bytesOf}
-use Rattle.octets.specs.Scans.{Every, isFlowCharacter}
+use Rattle.octets.specs.Scans.{Every, fails, isFlowCharacter}
 use Rattle.octets.proofs.Lists.{length-put, put-next, take-front, put-front}
 use Rattle.octets.proofs.AllBytes.{bytes-take}
 use Rattle.octets.proofs.Digits.{length-bytesOf}
-use Rattle.octets.proofs.Every.{every-passes, every-left, every-right}
+use Rattle.octets.proofs.Every.{none-fails, every-passes, every-left, every-right, every-both}
 use Rattle.sff_format.specs.declared.Answer.{Answer}
 use Rattle.sff_format.specs.declared.Answer.the-variants.{Accepted, Refused}
 use Rattle.sff_format.specs.declared.Outcome.{Outcome}
@@ -27,15 +27,15 @@ use Rattle.sff_format.specs.FileTest.{fileTest}
 use Rattle.sff_format.specs.Parse.{parse}
 use Rattle.sff_format.specs.Places.{noRead, readAt}
 use Rattle.sff_format.specs.Position.{acceptedOr}
-use Rattle.sff_format.specs.Writing.{newFile, newTest, newOutcome, newBuffer, givenTest, appendTest, appendOutcome, appendBuffer, Left, appendEach, writeEach, Holder, Lent}
-use Rattle.sff_format.proofs.Answers.{first-ok, second-ok, both-ok, ok-when, ok-under}
+use Rattle.sff_format.specs.Writing.{newFile, newTest, newOutcome, newBuffer, givenTest, appendTest, appendOutcome, appendBuffer, Left, appendEach, writeEach, Holder, Lent, AllLent}
+use Rattle.sff_format.proofs.Answers.{first-ok, second-ok, both-ok, when-ok, ok-when, under-ok, ok-under, not-accepted}
 use Rattle.sff_format.proofs.Sizes.{length-header}
 use Rattle.sff_format.proofs.HeaderLaws.{offset-is, index-length-is, count-is, characters-are}
 use Rattle.sff_format.proofs.FileLaid.{length-parsed, file-valid}
 use Rattle.sff_format.proofs.FileTaken.{header-first, file-taken, file-back}
 use Rattle.sff_format.proofs.Written.{layout-bytes}
 use Rattle.sff_format.proofs.Appended.{reads-append, layout-plain, appended}
-use Rattle.sff_format.proofs.Given.{given-valid, valid-given}
+use Rattle.sff_format.proofs.Given.{or-left, or-right, given-valid, valid-given}
 
 -- a file with no index
 abbrev plain : List ℕ → List ℕ → List Read → File
@@ -296,5 +296,106 @@ module _ (buffer : List ℕ) (len : ℕ) (r : Read) (y : Bytes buffer) (t : Lent
   append-exactly = (
     (λ a. valid-holder (take len buffer) (bytes-take len buffer y) e r (given-valid (flowCharacters (take len buffer)) r t (given-ok a))),
     (λ k. append-ok buffer len r h e i (ne-eqb (readCount (take len buffer)) 4294967295 (λ q. let a : ⊥ = omega (arith, n, q) in a))
-    (valid-given (flowCharacters (take len buffer)) r (holder-valid (flowCharacters (take len buffer)) r k)) m),
+        (valid-given (flowCharacters (take len buffer)) r (holder-valid (flowCharacters (take len buffer)) r k)) m),
   )
+
+-- a writer that was refused stays so
+stays : (w : Left) (rs : List Read) (n p : ℕ) → w .outcome .answer ≡ Refused n p → appendEach w rs .outcome .answer ≡ Refused n p
+unfolding appendEach acceptedOr
+stays w [] n p e = e
+stays w (r ∷ rs) n p e = rw e
+
+append-refused : (buffer : List ℕ) (len : ℕ) (r : Read) (n p : ℕ) → appendTest buffer len r ≡ Refused n p → appendOutcome buffer len r .answer ≡ Refused n p
+unfolding appendOutcome
+append-refused buffer len r n p e = e
+
+new-refused : (buffer characters key : List ℕ) (n p : ℕ) → newTest (length buffer) characters key ≡ Refused n p → newOutcome buffer characters key .answer ≡ Refused n p
+unfolding newOutcome
+new-refused buffer characters key n p e = e
+
+valid-both : (characters : List ℕ) (us : List Read) (r : Read) → ValidReads characters us → ValidRead characters r → ValidReads characters (us ++ (r ∷ []))
+valid-both characters [] r g h = (h, tt)
+valid-both characters (u ∷ us) r g h = (g .0, valid-both characters us r (g .1) h)
+
+-- what an append that was carried out shows
+module _ (characters key buffer : List ℕ) (us : List Read) (r : Read) (v : Valid (plain characters key us)) (t : Lent r)
+    (fits : length (layout (plain characters key us)) ≤ length buffer) where
+  abbrev old : List ℕ
+  old = layout (plain characters key us)
+
+  module _ (a : appendTest (putAt 0 old buffer) (length old) r ≡ Accepted) where
+    stood : take (length old) (putAt 0 old buffer) ≡ old
+    stood = take-front old buffer
+
+    same : length (putAt 0 old buffer) ≡ length buffer
+    same = length-put 0 old buffer (omega arith)
+
+    fits-more : length (layout (plain characters key (us ++ (r ∷ [])))) ≤ length buffer
+    unfolding appendTest
+    fits-more =
+        let m : length old + length (layoutRead r) ≤ length (putAt 0 old buffer) = under-ok _ _ _ _ (second-ok _ _ (second-ok _ _ (second-ok _ _ (second-ok _ _ (second-ok _ _ a))))) in
+        rw (length-more characters key us r) (omega (arith, m, same))
+
+    below-limit : length us < 4294967295
+    unfolding appendTest
+    below-limit =
+        let q : eqb (readCount (take (length old) (putAt 0 old buffer))) 4294967295 ≡ false = when-ok _ _ _ (first-ok _ _ (second-ok _ _ (second-ok _ _ (second-ok _ _ a)))) in
+        let c : readCount (take (length old) (putAt 0 old buffer)) ≡ length us = ap readCount stood ∙ count-is old (plain characters key us) v (header-first (plain characters key us) v) in
+        let n = v .count-fits in
+        let d : length us ≡ 4294967295 → ⊥ = λ z. eqb-false (length us) 4294967295 (rw c at q) z in
+        omega (arith, n, d)
+
+    valid-more : Valid (plain characters key (us ++ (r ∷ [])))
+    unfolding appendTest
+    valid-more =
+        let c : flowCharacters (take (length old) (putAt 0 old buffer)) ≡ characters = ap flowCharacters stood ∙ characters-are old (plain characters key us) v (header-first (plain characters key us) v) in
+        let g : givenTest characters r ≡ Accepted = rw c at (first-ok _ _ (second-ok _ _ (second-ok _ _ (second-ok _ _ (second-ok _ _ a))))) in
+        let l : length (us ++ (r ∷ [])) ≡ length us + 1 = length-append us (r ∷ []) in
+        plain-valid characters key (us ++ (r ∷ [])) (v .characters-good) (v .header-fits) (omega (arith, l, below-limit)) (valid-both characters us r (v .reads-good) (given-valid characters r t g))
+
+-- the file keeps the rules and fits the buffer
+abbrev Fits : List ℕ → File → Type 0
+Fits buffer f = Valid f × (length (layout f) ≤ length buffer)
+
+each-exactly : (characters key buffer : List ℕ) (us ws : List Read) → Valid (plain characters key us) → length (layout (plain characters key us)) ≤ length buffer → AllLent ws
+    → appendEach (written buffer (plain characters key us)) ws .outcome .answer ≡ Accepted
+    → Fits buffer (plain characters key (us ++ ws))
+unfolding appendEach acceptedOr
+each-exactly characters key buffer us [] v h t e = rw append-nil (v, h)
+each-exactly characters key buffer us (r ∷ rs) v h t e = go (appendTest (putAt 0 (layout (plain characters key us)) buffer) (length (layout (plain characters key us))) r) refl
+    (λ x l z. each-exactly characters key buffer (us ++ (r ∷ [])) rs x l (t .1) z)
+  where
+    go : (a : Answer) → appendTest (putAt 0 (layout (plain characters key us)) buffer) (length (layout (plain characters key us))) r ≡ a
+        → (Valid (plain characters key (us ++ (r ∷ []))) → length (layout (plain characters key (us ++ (r ∷ [])))) ≤ length buffer
+        → appendEach (written buffer (plain characters key (us ++ (r ∷ [])))) rs .outcome .answer ≡ Accepted → Fits buffer (plain characters key ((us ++ (r ∷ [])) ++ rs)))
+        → Fits buffer (plain characters key (us ++ (r ∷ rs)))
+    go Accepted f more =
+        let x = valid-more characters key buffer us r v (t .0) h f in
+        let l = fits-more characters key buffer us r v (t .0) h f in
+        let d : (us ++ (r ∷ [])) ++ rs ≡ us ++ (r ∷ rs) = append-assoc us (r ∷ []) rs in
+        rw (← d) (more x l (rw (next-outcome characters key buffer us r x l, next-buffer characters key buffer us r x l) at e))
+    go (Refused m p) f more = not-accepted m p (sym (stays _ rs m p (append-refused (putAt 0 (layout (plain characters key us)) buffer) (length (layout (plain characters key us))) r m p f)) ∙ e)
+
+new-valid : (buffer characters key : List ℕ) → newTest (length buffer) characters key ≡ Accepted → Fits buffer (newFile characters key)
+unfolding newTest
+new-valid buffer characters key e =
+    let six = when-ok (fails isFlowCharacter characters || fails isFlowCharacter key) _ _ (first-ok _ _ (second-ok _ _ e)) in
+    let c = none-fails isFlowCharacter characters (or-left (fails isFlowCharacter characters) (fails isFlowCharacter key) six) in
+    let k = none-fails isFlowCharacter key (or-right (fails isFlowCharacter characters) (fails isFlowCharacter key) six) in (
+      plain-valid characters key [] (every-both isFlowCharacter characters key c k)
+          (header-small (length characters) (length key) (under-ok _ _ _ _ (first-ok _ _ e))) (omega arith) tt,
+      under-ok _ _ _ _ (second-ok _ _ (second-ok _ _ e)),
+    )
+
+-- The writers carry all of it out exactly if the file keeps the rules and the buffer holds it.
+module _ (f : File) (e : f .index ≡ noIndex) (buffer : List ℕ) (t : AllLent (f .reads)) where
+  pub write-exactly : (writeEach buffer f .outcome .answer ≡ Accepted) ↔ (Valid f × (length (layout f) ≤ length buffer))
+  unfolding writeEach
+  write-exactly = ((λ a. go a (newTest (length buffer) (f .flow-characters) (f .key)) refl), (λ k. ap (λ (w : Left). w .outcome .answer) (write-each f e (k .0) buffer (k .1))))
+    where
+      go : writeEach buffer f .outcome .answer ≡ Accepted → (a : Answer) → newTest (length buffer) (f .flow-characters) (f .key) ≡ a → Fits buffer f
+      go a Accepted n =
+          let x = new-valid buffer (f .flow-characters) (f .key) n in
+          rw (is-plain f e) at (each-exactly (f .flow-characters) (f .key) buffer [] (f .reads) (x .0) (x .1) t
+          (rw (new-outcome buffer (f .flow-characters) (f .key) (x .0) (x .1), new-buffer buffer (f .flow-characters) (f .key) (x .0) (x .1)) at a))
+      go a (Refused m p) n = not-accepted m p (sym (stays _ (f .reads) m p (new-refused buffer (f .flow-characters) (f .key) m p n)) ∙ a)

@@ -126,3 +126,7 @@ pub record Lent (r : Read) : Type 0 where
   pub clips-fit : Words (r .quality-left ∷ r .quality-right ∷ r .adapter-left ∷ r .adapter-right ∷ [])
   pub values-fit : Words (r .values)
   pub bytes-good : Bytes (r .increments) × Bytes (r .bases) × Bytes (r .qualities)
+
+abbrev pub AllLent : List Read → Type 0
+AllLent [] = Unit {0}
+AllLent (r ∷ rs) = Lent r × AllLent rs

@@ -3,12 +3,13 @@ use mathlib.Core.Path.{_≡_, refl, sym, ap, _∙_}
 use mathlib.Core.Bool.{Bool, true, false, not}
 use mathlib.Core.List.{List, [], _∷_, _++_}
 use Prim.Native.Nat.{ℕ, zero, suc, _+_, _-_, _≤_, _<_}
-use native.Mathlib.Nat.{add-zero, add-assoc}
+use native.Mathlib.Nat.{add-zero, zero-add, add-assoc}
 use native.Mathlib.Numerals.{add-one}
 use native.Mathlib.Omega.{arith}
 use borrow.Author.Needs.{needs}
 use borrow.Author.Tests.{not-true, not-false}
 use lib.ListN.{length, take, drop, getD}
+use lib.Seq.{take-length}
 use Rattle.octets.proofs.Lists.{part-suc}
 use Rattle.octets.specs.Scans.{firstNot, run, oneMore}
 use Rattle.octets.specs.Parts.{part}
@@ -32,6 +33,11 @@ module _ (p : ℕ → Bool) (i to : ℕ) (l : List ℕ) where
 pub none : (p : ℕ → Bool) (to : ℕ) (l : List ℕ) → firstNot p to to l ≡ to
 unfolding firstNot run
 none p to l = let n : to - to ≡ 0 = omega arith in rw n (omega arith)
+
+-- the scan of a whole list
+pub first-run : (p : ℕ → Bool) (l : List ℕ) → firstNot p 0 (length l) l ≡ run p l
+unfolding firstNot
+first-run p l = let n : length l - 0 ≡ length l = omega arith in rw (n, take-length, zero-add)
 
 -- a count that stops at the first failure is at most the length
 pub more-le : (t : Bool) (k n : ℕ) → k ≤ n → oneMore t k ≤ suc n

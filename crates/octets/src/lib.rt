@@ -1,10 +1,10 @@
 // Numbers, moves, comparisons and scans in byte slices. All of it is inner: each function says what it requires.
 ghost use mathlib.Core.Path.{_≡_};
-ghost use Prim.Native.Nat.{_+_, _-_, _≤_, _<_};
+ghost use Prim.Native.Nat.{_+_, _-_, _*_, _≤_, _<_};
 ghost use lib.ListN.{length, replicate};
-ghost use Rattle.octets.specs.Parts.{part, putAt, same, wholePart};
-ghost use Rattle.octets.specs.Numbers.{number, bytesOf};
-ghost use Rattle.octets.specs.Scans.{firstNot, passes};
+ghost use Rattle.octets.specs.Parts.{part, putAt, same, wholePart, up8};
+ghost use Rattle.octets.specs.Numbers.{number, bytesOf, words};
+ghost use Rattle.octets.specs.Scans.{firstNot, passes, fails};
 
 // What the bytes of a stretch are tested for.
 pub enum ByteTest {
@@ -18,6 +18,14 @@ pub fn wide(x: u8) -> usize
     ensures { λ r. ⌜ (r ≡ x) × (r < 256) ⌝ }
 {
     x as usize
+}
+
+// The next multiple of 8, or n itself.
+pub fn up8(n: usize) -> usize
+    requires { ⌜ n + 7 < 18446744073709551616 ⌝ }
+    ensures { λ r. ⌜ r ≡ up8 n ⌝ }
+{
+    (n + 7) / 8 * 8
 }
 
 fn wide32(x: u8) -> u32
@@ -88,6 +96,22 @@ pub fn put64(s: &mut [u8], at: usize, v: usize)
 {
     put32(s, at, v / 4294967296);
     put32(s, at + 4, v % 4294967296);
+}
+
+// Puts each of the values at `at` and after it, as two bytes.
+pub fn put_words(s: &mut [u8], at: usize, values: &[u16])
+    requires { ⌜ at + 2 * length (now values) ≤ length (now s) ⌝ }
+    ensures { λ _. ⌜ now (s .exit) ≡ putAt at (words (now (values .entry))) (now (s .entry)) ⌝ }
+{
+    let n = values.len();
+    let mut j = 0;
+    while j < n {
+        let v = values[j];
+        let place = at + 2 * j;
+        s[place] = (v / 256 % 256) as u8;
+        s[place + 1] = (v % 256) as u8;
+        j += 1;
+    }
 }
 
 // Puts v into each place from `from` to before `to`.
@@ -195,4 +219,11 @@ pub fn first_not(test: ByteTest, s: &[u8], from: usize, to: usize) -> usize
         }
         j += 1;
     }
+}
+
+// Whether some byte fails the test.
+pub fn fails(test: ByteTest, s: &[u8]) -> bool
+    ensures { λ r. ⌜ r ≡ fails (passes test) (now (s .entry)) ⌝ }
+{
+    first_not(test, s, 0, s.len()) < s.len()
 }

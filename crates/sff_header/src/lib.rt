@@ -13,6 +13,7 @@ use crate::inner::is_declared;
 use octets::ByteTest;
 use octets::first_not;
 use octets::get32;
+use octets::up8;
 use sff_format::Answer;
 
 // The fields of the common header that differ from file to file.
@@ -62,7 +63,7 @@ fn fixed_test(s: &[u8], header: Header) -> Answer
     if s[30] != 1 {
         return Answer::Refused(4, 30);
     }
-    if header.length != (characters_end(header) + 7) / 8 * 8 {
+    if header.length != up8(characters_end(header)) {
         return Answer::Refused(5, 24);
     }
     Answer::Accepted

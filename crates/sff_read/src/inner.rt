@@ -2,7 +2,7 @@
 ghost use mathlib.Core.Path.{_≡_};
 ghost use Prim.Native.Nat.{_+_, _*_, _≤_, _<_};
 ghost use lib.ListN.{length};
-ghost use Rattle.octets.specs.Parts.{part, up8};
+ghost use Rattle.octets.specs.Parts.{part};
 ghost use Rattle.sff_format.specs.Rules.{leftLimit, rightLimit};
 ghost use Rattle.sff_format.specs.Answer.{shifted};
 ghost use Rattle.sff_format.specs.ReadTest.{nameTest, clipTest, basesTest, dataTest, readTest, readEnd};
@@ -12,6 +12,7 @@ use octets::ByteTest;
 use octets::first_not;
 use octets::get16;
 use octets::get32;
+use octets::up8;
 use sff_format::Answer;
 use sff_format::ReadView;
 use sff_format::Stretch;
@@ -40,14 +41,6 @@ fn read_fields(s: &[u8], p: usize) -> ReadFields
     }
 }
 
-// The next multiple of 8, or n itself.
-fn padded_size(n: usize) -> usize
-    requires { ⌜ n + 7 < 18446744073709551616 ⌝ }
-    ensures { λ r. ⌜ r ≡ up8 n ⌝ }
-{
-    (n + 7) / 8 * 8
-}
-
 // 5, 1, 6, 7
 fn name_test(s: &[u8], p: usize, section: usize, name_length: usize) -> Answer
     requires { ⌜ (p + 16 ≤ length (now s)) × (section < 65536) × («name_length» < 65536) ⌝ }
@@ -55,7 +48,7 @@ fn name_test(s: &[u8], p: usize, section: usize, name_length: usize) -> Answer
 {
     let name_end = p + 16 + name_length;
     let end = p + section;
-    if section != padded_size(16 + name_length) {
+    if section != up8(16 + name_length) {
         return Answer::Refused(5, p);
     }
     if s.len() < end {
@@ -87,8 +80,8 @@ fn right_limit(bases: usize) -> BasePosition
     BasePosition(bases)
 }
 
-// 9
-fn clip_test(
+// 9: the clips of the read at p.
+pub fn clip_test(
     p: usize,
     bases: usize,
     quality_left: BasePosition,
@@ -141,7 +134,7 @@ fn data_test(s: &[u8], d: usize, bases: usize, flows: usize) -> Answer
     ensures { λ r. ⌜ r ≡ dataTest (part 31 flows (now (s .entry))) (now (s .entry)) d bases ⌝ }
 {
     let used = 2 * flows + 3 * bases;
-    let end = d + padded_size(used);
+    let end = d + up8(used);
     if s.len() < end {
         return Answer::Refused(1, d);
     }
@@ -191,7 +184,7 @@ pub fn read_end(s: &[u8], p: usize, flows: usize) -> usize
     requires { ⌜ (p + 16 ≤ length (now s)) × (flows < 65536) ⌝ }
     ensures { λ r. ⌜ r ≡ readEnd flows (now (s .entry)) p ⌝ }
 {
-    p + get16(s, p) + padded_size(2 * flows + 3 * get32(s, p + 4))
+    p + get16(s, p) + up8(2 * flows + 3 * get32(s, p + 4))
 }
 
 // What the read at p says, as far as its fields do.

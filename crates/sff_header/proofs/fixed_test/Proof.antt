@@ -21,19 +21,19 @@ returns-3 c = let d = c .before .before in search (tests, number-one, ← (d .be
 
 returns-4 : tie.Need-returns-4
 unfolding fixedTest _then_ when
-returns-4 c = let d = c .before .before .before .before .before in
+returns-4 c = let d = c .before .before .before .before .before .before in
     let g = d .before .before .before .before .before in
     let h = g .args .header in
     let b = g .args .s .now in
-    search (tests, number-one, ← (d .before .get322 .ensures .0), ← (d .before .before .before .get32 .ensures .0), length-of h b (g .pre .1 .0), key-length-of h b (g .pre .1 .0), flows-of h b (g .pre .1 .0), ← (c .before .before .characters-end .ensures))
+    search (tests, number-one, ← (d .before .get322 .ensures .0), ← (d .before .before .before .get32 .ensures .0), length-of h b (g .pre .1 .0), key-length-of h b (g .pre .1 .0), flows-of h b (g .pre .1 .0), ← (c .before .before .before .characters-end .ensures), ← (c .before .before .up8 .ensures))
 
 returns-5 : tie.Need-returns-5
 unfolding fixedTest _then_ when
-returns-5 c = let d = c .before .before .before .before .before in
+returns-5 c = let d = c .before .before .before .before .before .before in
     let g = d .before .before .before .before .before in
     let h = g .args .header in
     let b = g .args .s .now in
-    search (tests, number-one, ← (d .before .get322 .ensures .0), ← (d .before .before .before .get32 .ensures .0), length-of h b (g .pre .1 .0), key-length-of h b (g .pre .1 .0), flows-of h b (g .pre .1 .0), ← (c .before .before .characters-end .ensures))
+    search (tests, number-one, ← (d .before .get322 .ensures .0), ← (d .before .before .before .get32 .ensures .0), length-of h b (g .pre .1 .0), key-length-of h b (g .pre .1 .0), flows-of h b (g .pre .1 .0), ← (c .before .before .before .characters-end .ensures), ← (c .before .before .up8 .ensures))
 
 pub fixed-test-spec : {M : Type 1} → statement M
 fixed-test-spec =
@@ -46,7 +46,6 @@ fixed-test-spec =
     (λ c. search needs)
     returns-3
     (λ c κs. search needs)
-    (λ c. search needs)
-    (λ c. search needs)
+    (λ c κs. search needs)
     returns-4
     returns-5)

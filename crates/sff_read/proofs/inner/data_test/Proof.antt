@@ -7,24 +7,24 @@ use Rattle.sff_read.proofs.inner.data_test.Tie as tie
 
 returns : tie.Need-returns
 unfolding _then_ when
-returns c = search (tests, data-by-flows, ← (c .before .padded-size .ensures))
+returns c = search (tests, data-by-flows, ← (c .before .up8 .ensures))
 
 returns-2 : tie.Need-returns-2
 unfolding _then_ when
 returns-2 c = let t = c .before .before in
-    search (tests, data-by-flows, ← (t .before .before .padded-size .ensures), ← (t .called-test .ensures), c .enum-told2 .given .1)
+    search (tests, data-by-flows, ← (t .before .before .up8 .ensures), ← (t .called-test .ensures), c .enum-told2 .given .1)
 
 returns-3 : tie.Need-returns-3
 unfolding _then_ when
 returns-3 c = let e = c .before .before in
     let t = e .before .before in
-    search (tests, data-by-flows, ← (t .before .before .padded-size .ensures), ← (t .called-test .ensures), e .enum-told .given .1, ← (c .before .first-not .ensures .0))
+    search (tests, data-by-flows, ← (t .before .before .up8 .ensures), ← (t .called-test .ensures), e .enum-told .given .1, ← (c .before .first-not .ensures .0))
 
 returns-4 : tie.Need-returns-4
 unfolding _then_ when
 returns-4 c = let e = c .before .before in
     let t = e .before .before in
-    search (tests, data-by-flows, ← (t .before .before .padded-size .ensures), ← (t .called-test .ensures), e .enum-told .given .1, ← (c .before .first-not .ensures .0))
+    search (tests, data-by-flows, ← (t .before .before .up8 .ensures), ← (t .called-test .ensures), e .enum-told .given .1, ← (c .before .first-not .ensures .0))
 
 pub data-test-spec : {M : Type 1} → statement M
 data-test-spec =

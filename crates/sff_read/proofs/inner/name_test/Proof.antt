@@ -7,26 +7,26 @@ use Rattle.sff_read.proofs.inner.name_test.Tie as tie
 
 returns : tie.Need-returns
 unfolding nameTest _then_ when
-returns c = search (tests, ← (c .before .padded-size .ensures))
+returns c = search (tests, ← (c .before .up8 .ensures))
 
 returns-2 : tie.Need-returns-2
 unfolding nameTest _then_ when
-returns-2 c = search (tests, ← (c .before .before .padded-size .ensures))
+returns-2 c = search (tests, ← (c .before .before .up8 .ensures))
 
 returns-3 : tie.Need-returns-3
 unfolding nameTest _then_ when
 returns-3 c = let n = c .before in
-    search (tests, ← (n .before .before .before .padded-size .ensures), ← (n .first-not .ensures .0))
+    search (tests, ← (n .before .before .before .up8 .ensures), ← (n .first-not .ensures .0))
 
 returns-4 : tie.Need-returns-4
 unfolding nameTest _then_ when
 returns-4 c = let n = c .before .before .before in
-    search (tests, ← (n .before .before .before .padded-size .ensures), ← (n .first-not .ensures .0), ← (c .before .first-not2 .ensures .0))
+    search (tests, ← (n .before .before .before .up8 .ensures), ← (n .first-not .ensures .0), ← (c .before .first-not2 .ensures .0))
 
 returns-5 : tie.Need-returns-5
 unfolding nameTest _then_ when
 returns-5 c = let n = c .before .before .before in
-    search (tests, ← (n .before .before .before .padded-size .ensures), ← (n .first-not .ensures .0), ← (c .before .first-not2 .ensures .0))
+    search (tests, ← (n .before .before .before .up8 .ensures), ← (n .first-not .ensures .0), ← (c .before .first-not2 .ensures .0))
 
 pub name-test-spec : {M : Type 1} → statement M
 name-test-spec =

@@ -1,0 +1,18 @@
+use Rattle.sff_sections.proofs.Sections.{new-put}
+use borrow.Author.Needs.{needs}
+use Rattle.sff_sections.proofs.put_new_header.Statement.{statement}
+use Rattle.sff_sections.proofs.put_new_header.Tie as tie
+
+pub put-new-header-spec : {M : Type 1} → statement M
+put-new-header-spec =
+    tie.close
+    (tie.spec
+    (λ c. search needs)
+    (λ c κs. search needs)
+    (λ c κs. search needs)
+    (λ c κs. search needs)
+    (λ c κs. search needs)
+    (λ c. search needs)
+    (λ c κs. search needs)
+    (λ c. search needs)
+    (λ c. search new-put))

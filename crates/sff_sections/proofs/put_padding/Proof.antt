@@ -1,0 +1,8 @@
+use Rattle.sff_sections.proofs.Pieces.{zeros-put}
+use borrow.Author.Needs.{needs}
+use Rattle.sff_sections.proofs.put_padding.Statement.{statement}
+use Rattle.sff_sections.proofs.put_padding.Tie as tie
+
+pub put-padding-spec : {M : Type 1} → statement M
+put-padding-spec =
+    tie.close (tie.spec (λ c. search needs) (λ c κs. search needs) (λ c. search needs) (λ c κs. search needs) (λ c. search needs) (λ c. search zeros-put))

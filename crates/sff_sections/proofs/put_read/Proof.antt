@@ -1,0 +1,16 @@
+use Rattle.sff_sections.proofs.Sections.{read-put}
+use borrow.Author.Needs.{needs}
+use Rattle.sff_sections.proofs.put_read.Statement.{statement}
+use Rattle.sff_sections.proofs.put_read.Tie as tie
+
+pub put-read-spec : {M : Type 1} → statement M
+put-read-spec =
+    tie.close
+    (tie.spec
+    (λ c κs. search needs)
+    (λ c. search needs)
+    (λ c κs. search needs)
+    (λ c. search needs)
+    (λ c κs. search needs)
+    (λ c. search needs)
+    (λ c. search read-put))

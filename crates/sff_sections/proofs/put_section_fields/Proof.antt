@@ -1,0 +1,20 @@
+use Rattle.sff_sections.proofs.Pieces.{section-put}
+use borrow.Author.Needs.{needs}
+use Rattle.sff_sections.proofs.put_section_fields.Statement.{statement}
+use Rattle.sff_sections.proofs.put_section_fields.Tie as tie
+
+pub put-section-fields-spec : {M : Type 1} → statement M
+put-section-fields-spec =
+    tie.close
+    (tie.spec
+    (λ c. search needs)
+    (λ c κs. search needs)
+    (λ c κs. search needs)
+    (λ c. search needs)
+    (λ c κs. search needs)
+    (λ c. search needs)
+    (λ c κs. search needs)
+    (λ c. search needs)
+    (λ c κs. search needs)
+    (λ c. search needs)
+    (λ c. search section-put))

@@ -121,6 +121,10 @@ drop-take at to l h k =
     let len : length (take at l) ≡ at = length-take-le at l (omega arith) in
     ap (λ (n : ℕ). drop at (take n l)) e ∙ rw (take-add, drop-at (take at l) _ at len)
 
+-- a part of a front
+pub part-take : (p n to : ℕ) (l : List ℕ) → p + n ≤ to → to ≤ length l → part p n (take to l) ≡ part p n l
+part-take p n to l h k = rw (drop-take p to l (omega arith) k) (take-take n (to - p) (drop p l) (omega arith))
+
 -- what was put is what is read there, and what lies before or after it is as it was
 pub part-put : (at n : ℕ) (xs l : List ℕ) → length xs ≡ n → at + n ≤ length l → part at n (putAt at xs l) ≡ xs
 unfolding putAt

@@ -14,7 +14,7 @@ use Rattle.sff_format.specs.declared.Answer.the-variants.{Accepted}
 use Rattle.sff_format.specs.Model.{Read}
 use Rattle.sff_format.specs.Valid.{ValidRead}
 use Rattle.sff_format.specs.ReadTest.{clipTest}
-use Rattle.sff_format.specs.Writing.{givenTest, Lent}
+use Rattle.sff_format.specs.Writing.{badCounts, givenTest, Lent}
 use Rattle.sff_format.proofs.Answers.{first-ok, second-ok, both-ok, when-ok, ok-when, under-ok, ok-under, own-ok, ok-own, walk-ok, calls-ok, ok-bases}
 
 pub or-left : (s t : Bool) → (s || t) ≡ false → s ≡ false
@@ -26,11 +26,8 @@ or-right true t e = absurd (let z : _≡_ {A = ℕ} 0 1 = cc in let a : ⊥ = om
 or-right false t e = e
 
 -- 30
-bad : (v F x n q : ℕ) → Bool
-bad v F x n q = (not (eqb v F) || not (eqb x n)) || (not (eqb q n) || ltb 4294967295 n)
-
-counts-ok : (v F x n q : ℕ) → bad v F x n q ≡ false → (v ≡ F) × (x ≡ n) × (q ≡ n) × (n < 4294967296)
-unfolding bad
+pub counts-ok : (v F x n q : ℕ) → badCounts F v x n q ≡ false → (v ≡ F) × (x ≡ n) × (q ≡ n) × (n < 4294967296)
+unfolding badCounts
 counts-ok v F x n q e =
     let l = or-left (not (eqb v F) || not (eqb x n)) (not (eqb q n) || ltb 4294967295 n) e in
     let r = or-right (not (eqb v F) || not (eqb x n)) (not (eqb q n) || ltb 4294967295 n) e in
@@ -41,8 +38,8 @@ counts-ok v F x n q e =
       omega arith,
     )
 
-ok-counts : (v F x n q : ℕ) → v ≡ F → x ≡ n → q ≡ n → n < 4294967296 → bad v F x n q ≡ false
-unfolding bad
+ok-counts : (v F x n q : ℕ) → v ≡ F → x ≡ n → q ≡ n → n < 4294967296 → badCounts F v x n q ≡ false
+unfolding badCounts
 ok-counts v F x n q a b c d =
     let h : n ≤ 4294967295 = omega arith in
     rw (eq-eqb v F a, eq-eqb x n b, eq-eqb q n c, le-ltb 4294967295 n h)
@@ -55,7 +52,7 @@ small-name n h = omega arith
 
 module _ (characters : List ℕ) (r : Read) where
   pub given-valid : Lent r → givenTest characters r ≡ Accepted → ValidRead characters r
-  unfolding givenTest clipTest bad
+  unfolding givenTest clipTest
   given-valid g e =
       let c = counts-ok (length (r .values)) (length characters) (length (r .increments)) (length (r .bases)) (length (r .qualities)) (when-ok _ _ _ (first-ok _ _ e)) in
       let rest = second-ok _ _ (second-ok _ _ (second-ok _ _ e)) in
@@ -80,7 +77,7 @@ module _ (characters : List ℕ) (r : Read) where
       }
 
   pub valid-given : ValidRead characters r → givenTest characters r ≡ Accepted
-  unfolding givenTest clipTest bad
+  unfolding givenTest clipTest
   valid-given v =
       both-ok _ _ (ok-when _ _ _ (ok-counts (length (r .values)) (length characters) (length (r .increments)) (length (r .bases)) (length (r .qualities)) (v .values-count) (v .increments-count) (v .qualities-count) (v .bases-fit)))
       (

@@ -27,7 +27,7 @@ use Rattle.sff_format.specs.FileTest.{fileTest}
 use Rattle.sff_format.specs.Parse.{parse}
 use Rattle.sff_format.specs.Places.{noRead, readAt}
 use Rattle.sff_format.specs.Position.{acceptedOr}
-use Rattle.sff_format.specs.Writing.{newFile, newTest, newOutcome, newBuffer, givenTest, appendTest, appendOutcome, appendBuffer, Left, appendEach, writeEach, Holder, Lent, AllLent}
+use Rattle.sff_format.specs.Writing.{newFile, newTest, newOutcome, newBuffer, givenTest, openTest, appendTest, appendOutcome, appendBuffer, Left, appendEach, writeEach, Holder, Lent, AllLent}
 use Rattle.sff_format.proofs.Answers.{first-ok, second-ok, both-ok, when-ok, ok-when, under-ok, ok-under, not-accepted}
 use Rattle.sff_format.proofs.Sizes.{length-header}
 use Rattle.sff_format.proofs.HeaderLaws.{offset-is, index-length-is, count-is, characters-are}
@@ -110,10 +110,10 @@ module _ (characters key : List ℕ) (us : List Read) where
 append-ok : (buffer : List ℕ) (len : ℕ) (r : Read) → len ≤ length buffer → fileTest (take len buffer) ≡ Accepted
     → declared (indexOffset (take len buffer)) (indexLength (take len buffer)) ≡ false → eqb (readCount (take len buffer)) 4294967295 ≡ false
     → givenTest (flowCharacters (take len buffer)) r ≡ Accepted → len + length (layoutRead r) ≤ length buffer → appendTest buffer len r ≡ Accepted
-unfolding appendTest
+unfolding appendTest openTest
 append-ok buffer len r h f i n g m =
     both-ok _ _ (ok-under (length buffer) len _ _ h)
-    (both-ok _ _ f (both-ok _ _ (ok-when _ _ _ i) (both-ok _ _ (ok-when _ _ _ n) (both-ok _ _ g (ok-under (length buffer) (len + length (layoutRead r)) _ _ m)))))
+    (both-ok _ _ (both-ok _ _ f (both-ok _ _ (ok-when _ _ _ i) (ok-when _ _ _ n))) (both-ok _ _ g (ok-under (length buffer) (len + length (layoutRead r)) _ _ m)))
 
 append-done : (buffer : List ℕ) (len : ℕ) (r : Read) → appendTest buffer len r ≡ Accepted
     → appendOutcome buffer len r ≡ record { answer = Accepted; length = len + length (layoutRead r) }
@@ -290,7 +290,7 @@ module _ (buffer : List ℕ) (len : ℕ) (r : Read) (y : Bytes buffer) (t : Lent
     (m : len + length (layoutRead r) ≤ length buffer) where
   given-ok : appendTest buffer len r ≡ Accepted → givenTest (flowCharacters (take len buffer)) r ≡ Accepted
   unfolding appendTest
-  given-ok a = first-ok _ _ (second-ok _ _ (second-ok _ _ (second-ok _ _ (second-ok _ _ a))))
+  given-ok a = first-ok _ _ (second-ok _ _ (second-ok _ _ a))
 
   pub append-exactly : (appendTest buffer len r ≡ Accepted) ↔ Holder (flowCharacters (take len buffer)) r
   append-exactly = (
@@ -333,13 +333,13 @@ module _ (characters key buffer : List ℕ) (us : List Read) (r : Read) (v : Val
     fits-more : length (layout (plain characters key (us ++ (r ∷ [])))) ≤ length buffer
     unfolding appendTest
     fits-more =
-        let m : length old + length (layoutRead r) ≤ length (putAt 0 old buffer) = under-ok _ _ _ _ (second-ok _ _ (second-ok _ _ (second-ok _ _ (second-ok _ _ (second-ok _ _ a))))) in
+        let m : length old + length (layoutRead r) ≤ length (putAt 0 old buffer) = under-ok _ _ _ _ (second-ok _ _ (second-ok _ _ (second-ok _ _ a))) in
         rw (length-more characters key us r) (omega (arith, m, same))
 
     below-limit : length us < 4294967295
-    unfolding appendTest
+    unfolding appendTest openTest
     below-limit =
-        let q : eqb (readCount (take (length old) (putAt 0 old buffer))) 4294967295 ≡ false = when-ok _ _ _ (first-ok _ _ (second-ok _ _ (second-ok _ _ (second-ok _ _ a)))) in
+        let q : eqb (readCount (take (length old) (putAt 0 old buffer))) 4294967295 ≡ false = when-ok _ _ _ (second-ok _ _ (second-ok _ _ (first-ok _ _ (second-ok _ _ a)))) in
         let c : readCount (take (length old) (putAt 0 old buffer)) ≡ length us = ap readCount stood ∙ count-is old (plain characters key us) v (header-first (plain characters key us) v) in
         let n = v .count-fits in
         let d : length us ≡ 4294967295 → ⊥ = λ z. eqb-false (length us) 4294967295 (rw c at q) z in
@@ -349,7 +349,7 @@ module _ (characters key buffer : List ℕ) (us : List Read) (r : Read) (v : Val
     unfolding appendTest
     valid-more =
         let c : flowCharacters (take (length old) (putAt 0 old buffer)) ≡ characters = ap flowCharacters stood ∙ characters-are old (plain characters key us) v (header-first (plain characters key us) v) in
-        let g : givenTest characters r ≡ Accepted = rw c at (first-ok _ _ (second-ok _ _ (second-ok _ _ (second-ok _ _ (second-ok _ _ a))))) in
+        let g : givenTest characters r ≡ Accepted = rw c at (first-ok _ _ (second-ok _ _ (second-ok _ _ a))) in
         let l : length (us ++ (r ∷ [])) ≡ length us + 1 = length-append us (r ∷ []) in
         plain-valid characters key (us ++ (r ∷ [])) (v .characters-good) (v .header-fits) (omega (arith, l, below-limit)) (valid-both characters us r (v .reads-good) (given-valid characters r t g))
 

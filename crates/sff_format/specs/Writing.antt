@@ -60,19 +60,25 @@ readOf name clips values increments bases qualities = record {
 }
 
 -- 30: "counts differ from F or from each other, or N above 4,294,967,295"
-abbrev pub badCounts : ℕ → Read → Bool
-badCounts F r =
-    (not (eqb (length (r .values)) F) || not (eqb (length (r .increments)) (length (r .bases))))
-    || (not (eqb (length (r .qualities)) (length (r .bases))) || ltb 4294967295 (length (r .bases)))
+unfoldable pub badCounts : ℕ → ℕ → ℕ → ℕ → ℕ → Bool
+badCounts F values increments bases qualities =
+    (not (eqb values F) || not (eqb increments bases)) || (not (eqb qualities bases) || ltb 4294967295 bases)
 
 -- 30, 5, 6, 9, 10, 11: a read for a file with these flow characters
 unfoldable pub givenTest : List ℕ → Read → Answer
 givenTest characters r =
-    when (badCounts (length characters) r) 30 0
+    when (badCounts (length characters) (length (r .values)) (length (r .increments)) (length (r .bases)) (length (r .qualities))) 30 0
     then when (ltb 65512 (length (r .name))) 5 0
     then when (fails isNameByte (r .name)) 6 0
     then own (clipTest 0 (length (r .bases)) (r .quality-left) (r .quality-right) (r .adapter-left) (r .adapter-right))
     then own (basesTest characters (r .increments) (r .bases))
+
+-- the file's own refusal; "25 an index is present; 31 reads already 4,294,967,295"
+unfoldable pub openTest : List ℕ → Answer
+openTest b =
+    fileTest b
+    then when (declared (indexOffset b) (indexLength b)) 25 0
+    then when (eqb (readCount b) 4294967295) 31 0
 
 -- "Appending takes a buffer, the file's length in it and one read. Order: 14 length stated above the buffer; the file's own refusal; 25 an index is present;
 -- 31 reads already 4,294,967,295; 30 ..; 5 ..; 6; 9; 10; 11; 26 new length above the buffer"
@@ -80,9 +86,7 @@ unfoldable pub appendTest : List ℕ → ℕ → Read → Answer
 appendTest buffer len r =
     let b = take len buffer in
     when (ltb (length buffer) len) 14 0
-    then fileTest b
-    then when (declared (indexOffset b) (indexLength b)) 25 0
-    then when (eqb (readCount b) 4294967295) 31 0
+    then openTest b
     then givenTest (flowCharacters b) r
     then when (ltb (length buffer) (len + length (layoutRead r))) 26 0
 

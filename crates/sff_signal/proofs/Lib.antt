@@ -1,0 +1,4 @@
+pub mod Totals
+pub mod Made
+pub mod Numbers
+pub mod Cases

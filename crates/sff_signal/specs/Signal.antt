@@ -1,0 +1,51 @@
+-- "Signal summary": three numbers of a read's stored values. Assumes nothing: these are definitions.
+use Prim.Native.Nat.{ℕ, _+_, _*_, min, max}
+use mathlib.Core.Bool.{false}
+use mathlib.Core.List.{List, [], _∷_}
+use lib.ListN.{length}
+use lib.IntN.{pos}
+use lib.Ieee.{Float, fin, binary64, div, ofInt}
+use Rattle.sff_format.specs.Parse.{parse}
+use Rattle.sff_format.specs.Places.{readAt}
+use Rattle.sff_format.specs.Position.{signalTest, acceptedOr}
+use Rattle.sff_signal.specs.declared.Summary.{Summary}
+
+-- "the exact sum of stored values"
+unfoldable pub sumOf : List ℕ → ℕ
+sumOf [] = 0
+sumOf (x ∷ xs) = x + sumOf xs
+
+-- the largest
+unfoldable pub maxOf : List ℕ → ℕ
+maxOf [] = 0
+maxOf (x ∷ xs) = max x (maxOf xs)
+
+-- the smallest; 0 of none, which is never asked
+unfoldable pub minOf : List ℕ → ℕ
+minOf [] = 0
+minOf (x ∷ []) = x
+minOf (x ∷ y ∷ ys) = min x (minOf (y ∷ ys))
+
+-- "each of one division": of two whole numbers, each of them exactly a float
+abbrev pub over : ℕ → ℕ → Float
+over n d = div binary64 (ofInt binary64 (pos n)) (ofInt binary64 (pos d))
+
+-- "Strongest and weakest are the largest and smallest stored value over 100.0; the mean is the exact sum of stored values over the exact 100F"
+unfoldable pub summaryOf : List ℕ → Summary
+summaryOf xs = record {
+  strongest = over (maxOf xs) 100;
+  weakest = over (minOf xs) 100;
+  mean = over (sumOf xs) (100 * length xs);
+}
+
+-- 0.0
+abbrev pub none : Float
+none = fin false 0 (pos 0)
+
+-- "all three are then 0.0"
+abbrev pub zeros : Summary
+zeros = record { strongest = none; weakest = none; mean = none }
+
+-- "Signal summary of a read with F ≥ 1 .. Refusals: the file's, 21, 32; all three are then 0.0"
+unfoldable pub fileSignal : List ℕ → ℕ → Summary
+fileSignal b i = acceptedOr (signalTest b i) (summaryOf (readAt (parse b) i .values)) zeros

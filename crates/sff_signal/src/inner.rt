@@ -1,0 +1,73 @@
+// The numbers of a summary, for this crate and those above it, which know that the values lie in the file: hence each `requires`.
+ghost use mathlib.Core.Path.{_≡_};
+ghost use Prim.Native.Nat.{_+_, _*_, _≤_, _<_, min, max};
+ghost use lib.ListN.{length};
+ghost use Rattle.octets.specs.Numbers.{number, wordsAt};
+ghost use Rattle.sff_signal.specs.Signal.{sumOf, maxOf, minOf, over, summaryOf};
+use crate::Summary;
+use octets::get16;
+
+// The whole numbers that a summary is made of. 32 bits hold the sum of 65,535 values, and are exactly an f64.
+struct Totals {
+    most: u32,
+    least: u32,
+    sum: u32,
+}
+
+fn value(s: &[u8], at: usize) -> u32
+    requires { ⌜ at + 2 ≤ length (now s) ⌝ }
+    ensures { λ r. ⌜ (r ≡ number 2 at (now (s .entry))) × (r < 65536) ⌝ }
+{
+    get16(s, at) as u32
+}
+
+fn larger(a: u32, b: u32) -> u32
+    ensures { λ r. ⌜ r ≡ max a b ⌝ }
+{
+    if a < b { b } else { a }
+}
+
+fn smaller(a: u32, b: u32) -> u32
+    ensures { λ r. ⌜ r ≡ min a b ⌝ }
+{
+    if b < a { b } else { a }
+}
+
+// The largest, the smallest and the sum of the values at `at`.
+fn add_up(s: &[u8], at: usize, flows: usize) -> Totals
+    requires { ⌜ (1 ≤ flows) × (flows < 65536) × (at + 2 * flows ≤ length (now s)) ⌝ }
+    ensures { λ r. ⌜ (r .most ≡ maxOf (wordsAt flows at (now (s .entry)))) × (r .least ≡ minOf (wordsAt flows at (now (s .entry)))) × (r .sum ≡ sumOf (wordsAt flows at (now (s .entry)))) ⌝ }
+{
+    let first = value(s, at);
+    let mut most = first;
+    let mut least = first;
+    let mut sum = first;
+    let mut i = 1;
+    while i < flows {
+        let x = value(s, at + 2 * i);
+        most = larger(most, x);
+        least = smaller(least, x);
+        sum += x;
+        i += 1;
+    }
+    Totals { most, least, sum }
+}
+
+fn ratio(n: u32, d: u32) -> f64
+    ensures { λ r. ⌜ r ≡ over n d ⌝ }
+{
+    (n as f64) / (d as f64)
+}
+
+// The summary of the values at `at`, one for each flow.
+pub fn values_summary(s: &[u8], at: usize, flows: usize) -> Summary
+    requires { ⌜ (1 ≤ flows) × (flows < 65536) × (at + 2 * flows ≤ length (now s)) ⌝ }
+    ensures { λ r. ⌜ r ≡ summaryOf (wordsAt flows at (now (s .entry))) ⌝ }
+{
+    let totals = add_up(s, at, flows);
+    Summary {
+        strongest: ratio(totals.most, 100),
+        weakest: ratio(totals.least, 100),
+        mean: ratio(totals.sum, 100 * (flows as u32)),
+    }
+}

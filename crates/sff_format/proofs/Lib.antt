@@ -13,11 +13,12 @@ pub mod FileLaid
 pub mod FileTaken
 pub mod Written
 pub mod Format
--- A file at a read; what is handed out of a read, and its insert; reading on.
+-- A file at a read; what is handed out of a read, and its insert; a read by its position; reading on.
 pub mod Split
 pub mod Places
 pub mod Views
 pub mod Inserted
+pub mod Positions
 pub mod Steps
 -- Writing: a read appended, and one that is lent to be written.
 pub mod Appended

@@ -1,24 +1,27 @@
 -- A read that is chosen by its position: it is accepted, and its insert is the read's, within its bases. Assumes nothing.
-use Prim.Native.Nat.{ℕ, zero, suc, _+_, _-_, _≤_, _<_}
-use mathlib.Core.Path.{_≡_, refl, _∙_}
+use Prim.Native.Nat.{ℕ, zero, suc, _+_, _-_, _*_, _≤_, _<_}
+use mathlib.Core.Path.{_≡_, refl, sym, _∙_}
 use mathlib.Core.Bool.{Bool}
 use mathlib.Core.List.{List, []}
 use native.Mathlib.Omega.{arith}
 use lib.ListN.{length}
-use borrow.Author.Tests.{ltb-true, not-false}
-use Rattle.octets.specs.Numbers.{Bytes}
+use borrow.Author.Tests.{ltb-true, lt-ltb, le-ltb, eqb-false, eq-eqb, ne-eqb, not-false}
+use Rattle.octets.specs.Numbers.{Bytes, wordsAt}
+use Rattle.octets.proofs.Stands.{number-small}
 use Rattle.sff_format.specs.declared.Answer.{Answer}
 use Rattle.sff_format.specs.declared.Answer.the-variants.{Accepted, Refused}
+use Rattle.sff_format.specs.Answer.{when, _then_}
 use Rattle.sff_format.specs.HeaderTest.{readCount, flows, flowCharacters}
 use Rattle.sff_format.specs.ReadTest.{readTest}
 use Rattle.sff_format.specs.FileTest.{boundaryTest, fileTest}
 use Rattle.sff_format.specs.Parse.{parseRead, parse}
 use Rattle.sff_format.specs.Places.{readAt, placeFrom, readPlace}
 use Rattle.sff_format.specs.Insert.{insertFirst, insertLast, insertOf}
-use Rattle.sff_format.specs.View.{viewFirst, viewLast, bytesIn}
-use Rattle.sff_format.specs.Position.{positionTest, acceptedOr, viewOf, insertStretch, fileInsert, fileFirst, fileLast}
+use Rattle.sff_format.specs.View.{viewAt, viewFirst, viewLast, bytesIn, insertIn}
+use Rattle.sff_format.specs.Position.{positionTest, signalTest, acceptedOr, viewOf, insertStretch, fileInsert, fileFirst, fileLast}
 use Rattle.sff_format.proofs.Answers.{first-ok, second-ok, when-ok}
-use Rattle.sff_format.proofs.HeaderLaws.{characters-length}
+use Rattle.sff_format.proofs.HeaderLaws.{fits-31, characters-length}
+use Rattle.sff_format.proofs.ReadLaid.{data-fits}
 use Rattle.sff_format.proofs.Boundaries.{accepted-read}
 use Rattle.sff_format.proofs.FileLaid.{head-ok, sections-ok}
 use Rattle.sff_format.proofs.Places.{read-found}
@@ -36,6 +39,29 @@ module _ (b : List ℕ) (i : ℕ) (e : fileTest b ≡ Accepted) (h : i < readCou
   unfolding readPlace
   read-accepted = place-accepted b (readCount b) i _ _ (sections-ok b e) h
 
+-- what the code asks of a position, and what it answers
+pub position-there : (b : List ℕ) (i : ℕ) → fileTest b ≡ Accepted → i < readCount b → Accepted ≡ positionTest b i
+unfolding positionTest _then_ when
+position-there b i e h = rw (e, lt-ltb i (readCount b) h)
+
+pub position-none : (b : List ℕ) (i : ℕ) → fileTest b ≡ Accepted → readCount b ≤ i → Refused 21 0 ≡ positionTest b i
+unfolding positionTest _then_ when
+position-none b i e h = rw (e, le-ltb i (readCount b) h)
+
+-- what stands for a refused call
+module _ (b : List ℕ) (i n p : ℕ) (e : positionTest b i ≡ Refused n p) where
+  pub insert-refused : [] ≡ fileInsert b i
+  unfolding fileInsert acceptedOr
+  insert-refused = rw e
+
+  pub first-refused : 1 ≡ fileFirst b i
+  unfolding fileFirst acceptedOr
+  first-refused = rw e
+
+  pub last-refused : 0 ≡ fileLast b i
+  unfolding fileLast acceptedOr
+  last-refused = rw e
+
 module _ (b : List ℕ) (i : ℕ) (e : positionTest b i ≡ Accepted) where
   pub position-file : fileTest b ≡ Accepted
   unfolding positionTest
@@ -45,9 +71,17 @@ module _ (b : List ℕ) (i : ℕ) (e : positionTest b i ≡ Accepted) where
   unfolding positionTest
   position-below = ltb-true i (readCount b) (not-false _ (when-ok _ _ _ (second-ok _ _ e)))
 
-  chosen : {A : Type 0} (x y : A) → acceptedOr (positionTest b i) x y ≡ x
-  unfolding acceptedOr
-  chosen x y = rw e
+  pub first-view : viewFirst (viewOf b i) ≡ fileFirst b i
+  unfolding fileFirst acceptedOr
+  first-view = rw e
+
+  pub last-view : viewLast (viewOf b i) ≡ fileLast b i
+  unfolding fileLast acceptedOr
+  last-view = rw e
+
+  stretch-view : bytesIn b (insertStretch (viewOf b i)) ≡ fileInsert b i
+  unfolding fileInsert acceptedOr
+  stretch-view = rw e
 
   count : length (flowCharacters b) ≡ flows b
   count = characters-length b (head-ok b position-file)
@@ -55,25 +89,35 @@ module _ (b : List ℕ) (i : ℕ) (e : positionTest b i ≡ Accepted) where
   there : readTest (flowCharacters b) b (readPlace b i) ≡ Accepted
   there = read-accepted b i position-file position-below
 
+  -- the flow values lie in the file
+  pub values-size : viewOf b i .values .size ≡ 2 * flows b
+  unfolding viewAt
+  values-size = refl
+
+  pub values-inside : viewOf b i .values .at + 2 * flows b ≤ length b
+  unfolding viewAt
+  values-inside = let f = rw count at (data-fits (flowCharacters b) b (readPlace b i) there) in omega arith
+
   module _ (y : Bytes b) where
     read-is : readAt (parse b) i ≡ parseRead (flows b) b (readPlace b i)
     read-is = read-found b y position-file i position-below
 
+    pub values-chosen : readAt (parse b) i .values ≡ wordsAt (flows b) (viewOf b i .values .at) b
+    unfolding viewAt parseRead
+    values-chosen = rw read-is
+
+    pub insert-view : insertIn b (viewOf b i) ≡ fileInsert b i
+    insert-view = sym (rw count at (stretch-viewed (flowCharacters b) b (readPlace b i) y there)) ∙ stretch-view
+
     -- what is handed over of an accepted file is the insert of its read
     pub insert-chosen : fileInsert b i ≡ insertOf (readAt (parse b) i)
-    unfolding fileInsert
-    insert-chosen =
-        let c = flowCharacters b in
-        let p = readPlace b i in
-        chosen _ _ ∙ rw read-is (rw count at (stretch-viewed c b p y there ∙ insert-viewed c b p y there))
+    insert-chosen = sym insert-view ∙ rw read-is (rw count at (insert-viewed (flowCharacters b) b (readPlace b i) y there))
 
     pub first-chosen : fileFirst b i ≡ insertFirst (readAt (parse b) i)
-    unfolding fileFirst
-    first-chosen = chosen _ _ ∙ rw read-is (rw count at (first-viewed (flowCharacters b) b (readPlace b i) y there))
+    first-chosen = sym first-view ∙ rw read-is (rw count at (first-viewed (flowCharacters b) b (readPlace b i) y there))
 
     pub last-chosen : fileLast b i ≡ insertLast (readAt (parse b) i)
-    unfolding fileLast
-    last-chosen = chosen _ _ ∙ rw read-is (rw count at (last-viewed (flowCharacters b) b (readPlace b i) y there))
+    last-chosen = sym last-view ∙ rw read-is (rw count at (last-viewed (flowCharacters b) b (readPlace b i) y there))
 
     -- it is a stretch within the bases of the read
     pub insert-inside :
@@ -89,3 +133,24 @@ insert-length b i y = go (positionTest b i) refl
     go : (a : Answer) → positionTest b i ≡ a → length (acceptedOr a (bytesIn b (insertStretch (viewOf b i))) []) ≡ suc (acceptedOr a (viewLast (viewOf b i)) 0) - acceptedOr a (viewFirst (viewOf b i)) 1
     go Accepted e = rw (count b i e) at (stretch-length (flowCharacters b) b (readPlace b i) y (there b i e))
     go (Refused n p) e = refl
+
+-- what the code asks for a signal summary, and what it answers
+pub signal-none : (b : List ℕ) (i : ℕ) → positionTest b i ≡ Accepted → flows b ≡ 0 → Refused 32 0 ≡ signalTest b i
+unfolding signalTest _then_ when
+signal-none b i e h = rw (e, eq-eqb (flows b) 0 h)
+
+pub signal-there : (b : List ℕ) (i : ℕ) → positionTest b i ≡ Accepted → (flows b ≡ 0 → ⊥) → Accepted ≡ signalTest b i
+unfolding signalTest _then_ when
+signal-there b i e h = rw (e, ne-eqb (flows b) 0 h)
+
+module _ (b : List ℕ) (i : ℕ) (e : signalTest b i ≡ Accepted) where
+  pub signal-position : positionTest b i ≡ Accepted
+  unfolding signalTest
+  signal-position = first-ok _ _ e
+
+  pub signal-flows : 1 ≤ flows b
+  unfolding signalTest
+  signal-flows = let h = eqb-false (flows b) 0 (when-ok _ _ _ (second-ok _ _ e)) in omega arith
+
+  pub flows-small : Bytes b → flows b < 65536
+  flows-small y = let f = fits-31 b (head-ok b (position-file b i signal-position)) in number-small 2 28 b y (omega arith)

@@ -1,0 +1,27 @@
+use mathlib.Core.Path.{sym, _∙_}
+use native.Mathlib.Omega.{arith}
+use borrow.Author.Needs.{needs}
+use Rattle.octets.proofs.AllBytes.{bytes-of}
+use Rattle.sff_format.proofs.Positions.{position-file, position-below, insert-refused, insert-view}
+use Rattle.sff_insert.proofs.insert.Statement.{statement}
+use Rattle.sff_insert.proofs.insert.Tie as tie
+
+pub insert-spec : {M : Type 1} → statement M
+insert-spec =
+    tie.close
+    (tie.spec
+    (λ c κs. search needs)
+    (λ c. search needs)
+    (λ c. search needs)
+    (λ c. search needs)
+    (λ c. insert-refused _ _ _ _ (sym (c .before .before .before .position-test .ensures) ∙ c .before .enum-told2 .given .1))
+    (λ c κs.
+    let e = sym (c .before .before .position-test .ensures) ∙ c .enum-told .given .1 in
+    let h = position-below _ _ e in
+    (position-file _ _ e, omega arith))
+    (λ c κs. search needs)
+    (λ c.
+    let e = sym (c .before .before .before .before .position-test .ensures) ∙ c .before .before .enum-told .given .1 in
+    let k = c .before .before .before .before .before in
+    let y = bytes-of (k .before .args .file .now) (λ j. k .shared-slice-known .given j .fits) in
+    c .insert .ensures ∙ rw (c .before .view-of .ensures) (insert-view _ _ e y)))

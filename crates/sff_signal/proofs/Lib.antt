@@ -1,4 +1,5 @@
 pub mod Totals
 pub mod Made
 pub mod Numbers
+pub mod Chosen
 pub mod Cases

@@ -1,0 +1,30 @@
+use mathlib.Core.Path.{sym, _∙_}
+use borrow.Author.Needs.{needs}
+use Rattle.sff_format.specs.Answer.{_then_}
+use Rattle.sff_format.specs.Position.{signalTest}
+use Rattle.sff_format.proofs.HeaderLaws.{fits-31}
+use Rattle.sff_format.proofs.FileLaid.{head-ok}
+use Rattle.sff_format.proofs.Positions.{position-file, signal-none, signal-there}
+use Rattle.sff_header.proofs.Fields.{flows-of}
+use Rattle.sff_signal.proofs.signal_test.Statement.{statement}
+use Rattle.sff_signal.proofs.signal_test.Tie as tie
+
+returns : tie.Need-returns
+unfolding signalTest _then_
+returns c = rw (← (c .before .before .position-test .ensures), c .enum-told2 .given .1)
+
+pub signal-test-spec : {M : Type 1} → statement M
+signal-test-spec =
+    tie.close
+    (tie.spec
+    (λ c κs. search needs)
+    (λ c. search needs)
+    (λ c. search needs)
+    returns
+    (λ c κs. fits-31 _ (head-ok _ (position-file _ _ (sym (c .before .before .position-test .ensures) ∙ c .enum-told .given .1))))
+    (λ c.
+    let e = sym (c .before .before .before .before .before .position-test .ensures) ∙ c .before .before .before .enum-told .given .1 in
+    signal-none _ _ e (flows-of _ _ (c .before .before .header-fields .ensures .0) ∙ c .if1 .taken))
+    (λ c.
+    let e = sym (c .before .before .before .before .before .position-test .ensures) ∙ c .before .before .before .enum-told .given .1 in
+    signal-there _ _ e (λ z. c .if1 .left (sym (flows-of _ _ (c .before .before .header-fields .ensures .0)) ∙ z))))

@@ -1,25 +1,35 @@
--- The demands on the file's test and on reading, each in the tender's words. Assumes nothing.
-use Prim.Native.Nat.{ℕ, suc, _+_, _<_}
+-- The demands on the file's test, on reading and on writing, each in the tender's words. Assumes nothing.
+use Prim.Native.Nat.{ℕ, suc, _+_, _≤_, _<_}
 use mathlib.Core.Path.{_≡_, ap}
+use mathlib.Core.Bool.{false}
 use mathlib.Core.Logic.{_↔_}
 use mathlib.Core.List.{List, _++_, map}
 use lib.ListN.{length, take, drop}
+use Rattle.octets.specs.Parts.{putAt}
 use Rattle.octets.specs.Numbers.{Bytes}
 use Rattle.sff_format.specs.declared.Answer.the-variants.{Accepted, Refused}
 use Rattle.sff_format.specs.Answer.{numberOf, _then_}
-use Rattle.sff_format.specs.Model.{File, layoutRead, layout}
-use Rattle.sff_format.specs.Valid.{Valid}
-use Rattle.sff_format.specs.HeaderTest.{readCount}
+use Rattle.sff_format.specs.Rules.{declared}
+use Rattle.sff_format.specs.Model.{Read, File, noIndex, layoutRead, layout}
+use Rattle.sff_format.specs.Valid.{ValidRead, Valid}
+use Rattle.sff_format.specs.HeaderTest.{indexOffset, indexLength, readCount, flowCharacters, keyCharacters}
 use Rattle.sff_format.specs.FileTest.{fileTest}
 use Rattle.sff_format.specs.Parse.{parse}
 use Rattle.sff_format.specs.Places.{readAt, place, readPlace}
+use Rattle.sff_format.specs.Insert.{insertFirst, insertLast, insertOf}
 use Rattle.sff_format.specs.View.{viewRead}
-use Rattle.sff_format.specs.Step.{State, fresh, stepTest, lastAnswer, viewsFound}
+use Rattle.sff_format.specs.Step.{State, fresh, stepTest, lastAnswer, viewsFound, readBack}
+use Rattle.sff_format.specs.Position.{positionTest, fileInsert, fileFirst, fileLast}
+use Rattle.sff_format.specs.Writing.{appendTest, writeEach, Holder, Lent, AllLent}
 use Rattle.sff_format.proofs.Format.{accepted, one-file}
 use Rattle.sff_format.proofs.FileLaid.{file-laid}
 use Rattle.sff_format.proofs.FileTaken.{file-back}
 use Rattle.sff_format.proofs.Places.{place-found, read-split}
-use Rattle.sff_format.proofs.Refusals.{file-zero, step-zero}
+use Rattle.sff_format.proofs.Positions.{insert-chosen, first-chosen, last-chosen}
+use Rattle.sff_format.proofs.Inserted.{insert-within}
+use Rattle.sff_format.proofs.Writers.{write-each, write-exactly, append-exactly}
+use Rattle.sff_format.proofs.Rewritten.{written-back, written-again}
+use Rattle.sff_format.proofs.Refusals.{file-zero, step-zero, append-zero, written-zero}
 use Rattle.sff_format.proofs.Steps.{steps-end, reads-in-order, then-33}
 
 -- "A file is accepted exactly if it keeps the SFF rules": if it is the layout of a file that keeps them, which is then one alone. Its number is then 0, and
@@ -48,8 +58,17 @@ pub split-at-read : (b : List ℕ) → Bytes b → fileTest b ≡ Accepted → (
     → b ≡ take (readPlace b i) b ++ (layoutRead (readAt (parse b) i) ++ drop (readPlace b i + length (layoutRead (readAt (parse b) i))) b)
 split-at-read = read-split
 
+-- "Given a file and a position, the insert's bases are handed over": of an accepted position, those of the read there, from its first to its last base
+pub insert-of-read : (b : List ℕ) (i : ℕ) → Bytes b → positionTest b i ≡ Accepted
+    → (fileInsert b i ≡ insertOf (readAt (parse b) i)) × (fileFirst b i ≡ insertFirst (readAt (parse b) i)) × (fileLast b i ≡ insertLast (readAt (parse b) i))
+insert-of-read b i y a = (insert-chosen b i a y, first-chosen b i a y, last-chosen b i a y)
+
+-- a non-empty insert lies within the read
+pub insert-within-read : (characters : List ℕ) (r : Read) → ValidRead characters r → insertFirst r ≤ insertLast r → (1 ≤ insertFirst r) × (insertLast r ≤ length (r .bases))
+insert-within-read characters r v h = insert-within v h
+
 -- "From a fresh state an accepted file's reads come in order, each once, then 33; a refused file gives the whole-file test's refusal at last". A read is what is handed out of it
-pub read-in-order : (b : List ℕ) → fileTest b ≡ Accepted → Bytes b → map (viewRead b) (viewsFound b (suc (readCount b)) (fresh b)) ≡ parse b .reads
+pub read-in-order : (b : List ℕ) → fileTest b ≡ Accepted → Bytes b → readBack b ≡ parse b .reads
 read-in-order = reads-in-order
 
 pub then-none-left : (b : List ℕ) → fileTest b ≡ Accepted → lastAnswer b (suc (readCount b)) (fresh b) ≡ Refused 33 (length b)
@@ -61,3 +80,32 @@ refused-at-last = steps-end
 -- a step's number is 0 exactly where it finds a read
 pub found-exactly : (b : List ℕ) (s : State) → (numberOf (stepTest b s) ≡ 0) ↔ (stepTest b s ≡ Accepted)
 found-exactly b s = (step-zero b s, (λ e. ap numberOf e))
+
+-- "Without one, a new file and an append for each read leave these bytes in any buffer that holds them": the bytes of writing afresh at its front, all else as it was
+pub written-afresh : (f : File) → f .index ≡ noIndex → Valid f → (buffer : List ℕ) → length (layout f) ≤ length buffer
+    → writeEach buffer f ≡ record { outcome = record { answer = Accepted; length = length (layout f) }; buffer = putAt 0 (layout f) buffer }
+written-afresh = write-each
+
+-- they are all carried out exactly if the file keeps the rules and the buffer holds it
+pub written-exactly : (f : File) → f .index ≡ noIndex → (buffer : List ℕ) → AllLent (f .reads)
+    → (numberOf (writeEach buffer f .outcome .answer) ≡ 0) ↔ (Valid f × (length (layout f) ≤ length buffer))
+written-exactly f e buffer t = ((λ a. write-exactly f e buffer t .0 (written-zero buffer f a)), (λ k. ap numberOf (write-exactly f e buffer t .1 k)))
+
+-- "Reads written and read back are the same": the reader gives, of what stands in the buffer, the reads that were written
+pub written-and-read-back : (f : File) → f .index ≡ noIndex → Valid f → (buffer : List ℕ) → length (layout f) ≤ length buffer
+    → readBack (take (writeEach buffer f .outcome .length) (writeEach buffer f .buffer)) ≡ f .reads
+written-and-read-back f e v buffer h = written-back f e v buffer h
+
+-- "a file without index, read and written again, gives its own bytes": its characters from the header, its reads from the reader
+pub read-and-written-again : (b : List ℕ) → Bytes b → fileTest b ≡ Accepted → declared (indexOffset b) (indexLength b) ≡ false → (buffer : List ℕ) → length b ≤ length buffer
+    → writeEach buffer (record { flow-characters = flowCharacters b; key = keyCharacters b; index = noIndex; reads = readBack b })
+    ≡ record { outcome = record { answer = Accepted; length = length b }; buffer = putAt 0 b buffer }
+read-and-written-again = written-again
+
+-- an append refuses a read exactly if no accepted file could hold it, where the file has no index and fewer reads than the count can say, and the buffer has room
+pub append-refuses-exactly : (buffer : List ℕ) (len : ℕ) (r : Read) → Bytes buffer → Lent r → len ≤ length buffer → fileTest (take len buffer) ≡ Accepted
+    → declared (indexOffset (take len buffer)) (indexLength (take len buffer)) ≡ false → readCount (take len buffer) < 4294967295 → len + length (layoutRead r) ≤ length buffer
+    → (numberOf (appendTest buffer len r) ≡ 0) ↔ Holder (flowCharacters (take len buffer)) r
+append-refuses-exactly buffer len r y t h e i n m =
+    let a = append-exactly buffer len r y t h e i n m in
+    ((λ z. a .0 (append-zero buffer len r z)), (λ k. ap numberOf (a .1 k)))

@@ -7,17 +7,20 @@ use Rattle.sff_format.specs.declared.Answer.{Answer}
 use Rattle.sff_format.specs.declared.Answer.the-variants.{Accepted, Refused}
 use Rattle.sff_format.specs.Model.{File, noIndex, layout}
 use Rattle.sff_format.specs.FileTest.{fileTest}
+use Rattle.sff_format.specs.Position.{fileInsert, fileFirst, fileLast}
 
--- what a row says: a file is written so; these bytes are so many; the whole-file test answers so
+-- what a row says: a file is written so; these bytes are so many; the whole-file test answers so; the insert at a position goes from a base to a base and is so
 pub data Case : Type 0 where
   written : File → List ℕ → Case
   sized : List ℕ → ℕ → Case
   tested : List ℕ → Answer → Case
+  inserted : List ℕ → ℕ → ℕ → ℕ → List ℕ → Case
 
 abbrev pub Holds : Case → Type 0
 Holds (written f b) = layout f ≡ b
 Holds (sized b n) = length b ≡ n
 Holds (tested b a) = fileTest b ≡ a
+Holds (inserted b i first last xs) = (fileFirst b i ≡ first) × (fileLast b i ≡ last) × (fileInsert b i ≡ xs)
 
 abbrev pub All : List Case → Type 0
 All [] = Unit {0}
@@ -65,8 +68,8 @@ bareBytes =
 
 abbrev pub table : List Case
 table =
-    -- "E is 40+24+24 = 88 bytes"
-    written e eBytes ∷ sized eBytes 88 ∷ tested eBytes Accepted
+    -- "E is 40+24+24 = 88 bytes; insert 2 to 3, CC"
+    written e eBytes ∷ sized eBytes 88 ∷ tested eBytes Accepted ∷ inserted eBytes 0 2 3 (67 ∷ 67 ∷ [])
     -- "F = K = 0, no reads: 32 bytes accepted; its first 31 refused, 1 at 0"
     ∷ written bare bareBytes ∷ sized bareBytes 32 ∷ tested bareBytes Accepted ∷ tested (take 31 bareBytes) (Refused 1 0)
     -- "clip 3 accepted, 4 gives 9"

@@ -24,5 +24,6 @@ pub mod Steps
 pub mod Appended
 pub mod Given
 pub mod Writers
+pub mod Rewritten
 -- No refusal has the number 0.
 pub mod Refusals

@@ -2,15 +2,19 @@
 use Prim.Native.Nat.{ℕ, zero, suc}
 use mathlib.Core.Path.{_≡_, refl}
 use mathlib.Core.Bool.{Bool, true, false, cond}
-use mathlib.Core.List.{List}
+use mathlib.Core.List.{List, [], _∷_}
 use native.Mathlib.Omega.{arith}
+use lib.ListN.{length, take}
 use lib.Dec.{ltb}
 use Rattle.sff_format.specs.declared.Answer.{Answer}
 use Rattle.sff_format.specs.declared.Answer.the-variants.{Accepted, Refused}
-use Rattle.sff_format.specs.Answer.{numberOf, when, shifted, _then_}
+use Rattle.sff_format.specs.Answer.{numberOf, when, shifted, own, _then_}
 use Rattle.sff_format.specs.HeaderTest.{fixedTest, charactersTest, headerTest, readCount, headerLength, flows, flowCharacters}
 use Rattle.sff_format.specs.ReadTest.{nameTest, clipTest, basesTest, dataTest, readTest, readEnd}
 use Rattle.sff_format.specs.FileTest.{indexHere, passTest, indexTest, pastIndex, nowPassed, endTest, boundaryTest, fileTest}
+use Rattle.sff_format.specs.Model.{Read, File}
+use Rattle.sff_format.specs.Position.{positionTest, signalTest, acceptedOr}
+use Rattle.sff_format.specs.Writing.{newTest, newOutcome, givenTest, openTest, appendTest, appendOutcome, appendBuffer, Left, appendEach, writeEach}
 use Rattle.sff_format.specs.Step.{State, boundary, indexPassed, readOrNone, stepTest}
 
 -- accepted, or refused with a number that is not 0
@@ -135,3 +139,74 @@ file-zero b e = zero-accepted (fileTest b) (file-numbered b) e
 
 pub step-zero : (b : List ℕ) (s : State) → numberOf (stepTest b s) ≡ 0 → stepTest b s ≡ Accepted
 step-zero b s e = zero-accepted (stepTest b s) (step-numbered b s) e
+
+-- nor of a position's, a summary's or a writer's
+own-numbered : (a : Answer) → Numbered a → Numbered (own a)
+unfolding own
+own-numbered Accepted h = tt
+own-numbered (Refused n p) h = h
+
+position-numbered : (b : List ℕ) (i : ℕ) → Numbered (positionTest b i)
+unfolding positionTest
+position-numbered b i = then-numbered _ _ (file-numbered b) (when-numbered _ 21 _ refl)
+
+pub position-zero : (b : List ℕ) (i : ℕ) → numberOf (positionTest b i) ≡ 0 → positionTest b i ≡ Accepted
+position-zero b i e = zero-accepted (positionTest b i) (position-numbered b i) e
+
+pub signal-zero : (b : List ℕ) (i : ℕ) → numberOf (signalTest b i) ≡ 0 → signalTest b i ≡ Accepted
+unfolding signalTest
+signal-zero b i e = zero-accepted (signalTest b i) (then-numbered _ _ (position-numbered b i) (when-numbered _ 32 _ refl)) e
+
+new-numbered : (room : ℕ) (characters key : List ℕ) → Numbered (newTest room characters key)
+unfolding newTest
+new-numbered room characters key = then-numbered _ _ (when-numbered _ 5 _ refl) (then-numbered _ _ (when-numbered _ 6 _ refl) (when-numbered _ 26 _ refl))
+
+pub new-zero : (room : ℕ) (characters key : List ℕ) → numberOf (newTest room characters key) ≡ 0 → newTest room characters key ≡ Accepted
+new-zero room characters key e = zero-accepted (newTest room characters key) (new-numbered room characters key) e
+
+given-numbered : (characters : List ℕ) (r : Read) → Numbered (givenTest characters r)
+unfolding givenTest basesTest
+given-numbered characters r =
+    then-numbered _ _ (when-numbered _ 30 _ refl)
+    (
+    then-numbered _ _ (when-numbered _ 5 _ refl)
+    (
+    then-numbered _ _ (when-numbered _ 6 _ refl)
+    (
+    then-numbered _ _ (own-numbered _ (clip-numbered 0 _ _ _ _ _))
+    (own-numbered _ (then-numbered _ _ (when-numbered _ 10 _ refl) (when-numbered _ 11 _ refl)))
+    )
+    )
+    )
+
+append-numbered : (buffer : List ℕ) (len : ℕ) (r : Read) → Numbered (appendTest buffer len r)
+unfolding appendTest openTest
+append-numbered buffer len r =
+    then-numbered _ _ (when-numbered _ 14 _ refl)
+    (
+    then-numbered _ _ (then-numbered _ _ (file-numbered (take len buffer)) (then-numbered _ _ (when-numbered _ 25 _ refl) (when-numbered _ 31 _ refl)))
+    (then-numbered _ _ (given-numbered (flowCharacters (take len buffer)) r) (when-numbered _ 26 _ refl))
+    )
+
+pub append-zero : (buffer : List ℕ) (len : ℕ) (r : Read) → numberOf (appendTest buffer len r) ≡ 0 → appendTest buffer len r ≡ Accepted
+append-zero buffer len r e = zero-accepted (appendTest buffer len r) (append-numbered buffer len r) e
+
+-- nor of a file that is written
+append-outcome : (buffer : List ℕ) (len : ℕ) (r : Read) → Numbered (appendOutcome buffer len r .answer)
+unfolding appendOutcome
+append-outcome buffer len r = append-numbered buffer len r
+
+each-numbered : (w : Left) (rs : List Read) → Numbered (w .outcome .answer) → Numbered (appendEach w rs .outcome .answer)
+unfolding appendEach acceptedOr
+each-numbered w [] h = h
+each-numbered w (r ∷ rs) h = go (w .outcome .answer) h (each-numbered (record { outcome = appendOutcome (w .buffer) (w .outcome .length) r; buffer = appendBuffer (w .buffer) (w .outcome .length) r }) rs (append-outcome (w .buffer) (w .outcome .length) r))
+  where
+    go : (a : Answer) → Numbered (w .outcome .answer)
+        → Numbered (appendEach (record { outcome = appendOutcome (w .buffer) (w .outcome .length) r; buffer = appendBuffer (w .buffer) (w .outcome .length) r }) rs .outcome .answer)
+        → Numbered (acceptedOr a (appendEach (record { outcome = appendOutcome (w .buffer) (w .outcome .length) r; buffer = appendBuffer (w .buffer) (w .outcome .length) r }) rs) w .outcome .answer)
+    go Accepted k m = m
+    go (Refused n p) k m = k
+
+pub written-zero : (buffer : List ℕ) (f : File) → numberOf (writeEach buffer f .outcome .answer) ≡ 0 → writeEach buffer f .outcome .answer ≡ Accepted
+unfolding writeEach newOutcome
+written-zero buffer f e = zero-accepted (writeEach buffer f .outcome .answer) (each-numbered _ (f .reads) (new-numbered (length buffer) (f .flow-characters) (f .key))) e

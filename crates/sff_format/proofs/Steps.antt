@@ -14,7 +14,7 @@ use Rattle.sff_format.specs.Rules.{indexSize}
 use Rattle.sff_format.specs.HeaderTest.{indexLength, headerTest, headerLength, flows, flowCharacters, readCount}
 use Rattle.sff_format.specs.ReadTest.{readTest, readEnd}
 use Rattle.sff_format.specs.FileTest.{indexHere, passTest, indexTest, pastIndex, nowPassed, endTest, boundaryTest, fileTest}
-use Rattle.sff_format.specs.Step.{State, found, stop, concluded, stepTest, readOrNone, moved, boundary, indexPassed, step, freshPlace, fresh, onStop, lastAnswer, onFound, viewsFound}
+use Rattle.sff_format.specs.Step.{State, found, stop, concluded, stepTest, readOrNone, moved, boundary, indexPassed, step, freshPlace, fresh, onStop, lastAnswer, onFound, viewsFound, readBack}
 use Rattle.sff_format.specs.View.{viewAt, viewRead}
 use Rattle.sff_format.specs.Parse.{parseRead, parseReads, parse}
 use Rattle.sff_format.proofs.Answers.{first-ok, second-ok, both-ok, under-ok, then-accepted, then-assoc, then-on}
@@ -135,7 +135,7 @@ module _ (b : List ℕ) (e : fileTest b ≡ Accepted) where
   fresh-is = rw (head-ok b e)
 
   -- "From a fresh state an accepted file's reads come in order, each once"
-  pub reads-in-order : Bytes b → map (viewRead b) (viewsFound b (suc (readCount b)) (fresh b)) ≡ parse b .reads
+  pub reads-in-order : Bytes b → readBack b ≡ parse b .reads
   unfolding parse
   reads-in-order y = let h = head-ok b e in rw fresh-is (reads-found b h y (readCount b) _ (omega arith) (header-fits b h) (sections-ok b e))
 

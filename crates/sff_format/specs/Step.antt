@@ -1,16 +1,17 @@
 -- "Reading on". Assumes nothing: these are definitions.
 use Prim.Native.Nat.{ℕ, zero, suc, _+_}
 use mathlib.Core.Bool.{Bool, false, cond}
-use mathlib.Core.List.{List, [], _∷_}
+use mathlib.Core.List.{List, [], _∷_, map}
 use lib.ListN.{length}
 use lib.Dec.{ltb}
 use Rattle.sff_format.specs.declared.Answer.{Answer}
 use Rattle.sff_format.specs.declared.Answer.the-variants.{Accepted, Refused}
 use Rattle.sff_format.specs.declared.ReadView.{ReadView}
+use Rattle.sff_format.specs.Model.{Read}
 use Rattle.sff_format.specs.Answer.{when, _then_}
 use Rattle.sff_format.specs.HeaderTest.{headerTest, headerLength, flows, flowCharacters, readCount}
 use Rattle.sff_format.specs.ReadTest.{readTest, readEnd}
-use Rattle.sff_format.specs.View.{viewAt}
+use Rattle.sff_format.specs.View.{viewAt, viewRead}
 use Rattle.sff_format.specs.FileTest.{indexTest, pastIndex, nowPassed, endTest}
 
 -- "A reader's state holds a byte place, the reads passed and whether the index is passed"
@@ -85,3 +86,7 @@ unfoldable pub viewsFound : List ℕ → ℕ → State → List ReadView
 unfolding onFound
 viewsFound b zero s = []
 viewsFound b (suc k) s = onFound (viewsFound b k) (step b s)
+
+-- the reads that are handed out from a fresh state on, until none is left
+abbrev pub readBack : List ℕ → List Read
+readBack b = map (viewRead b) (viewsFound b (suc (readCount b)) (fresh b))

@@ -1,0 +1,53 @@
+-- What the writers leave is read back as it was written, and what was read is written again as it was. Assumes nothing.
+use Prim.Native.Nat.{ℕ, _≤_}
+use mathlib.Core.Path.{_≡_, refl, sym, ap, _∙_}
+use mathlib.Core.Bool.{false}
+use mathlib.Core.List.{List, []}
+use lib.ListN.{length, take}
+use Rattle.octets.specs.Parts.{part, putAt}
+use Rattle.octets.specs.Numbers.{Bytes}
+use Rattle.octets.proofs.Lists.{take-front}
+use Rattle.sff_format.specs.declared.Answer.the-variants.{Accepted}
+use Rattle.sff_format.specs.Rules.{declared}
+use Rattle.sff_format.specs.Model.{Read, Index, File, noIndex, layout}
+use Rattle.sff_format.specs.Valid.{Valid}
+use Rattle.sff_format.specs.HeaderTest.{indexOffset, indexLength, readCount, headerLength, flowCharacters, keyCharacters}
+use Rattle.sff_format.specs.FileTest.{fileTest}
+use Rattle.sff_format.specs.Parse.{parse, parseReads}
+use Rattle.sff_format.specs.Step.{readBack}
+use Rattle.sff_format.specs.Writing.{Left, writeEach}
+use Rattle.sff_format.proofs.Boundaries.{undeclared}
+use Rattle.sff_format.proofs.FileLaid.{file-laid, file-valid}
+use Rattle.sff_format.proofs.FileTaken.{file-taken, file-back}
+use Rattle.sff_format.proofs.Written.{layout-bytes}
+use Rattle.sff_format.proofs.Steps.{reads-in-order}
+use Rattle.sff_format.proofs.Writers.{write-each}
+
+-- the reader gives the reads of a file that keeps the rules
+laid-back : (f : File) → Valid f → readBack (layout f) ≡ f .reads
+laid-back f v = reads-in-order (layout f) (file-taken f v) (layout-bytes f v) ∙ ap (λ (g : File). g .reads) (file-back f v)
+
+pub written-back : (f : File) → f .index ≡ noIndex → Valid f → (buffer : List ℕ) → length (layout f) ≤ length buffer
+    → readBack (take (writeEach buffer f .outcome .length) (writeEach buffer f .buffer)) ≡ f .reads
+written-back f e v buffer h = rw (write-each f e v buffer h, take-front (layout f) buffer) (laid-back f v)
+
+module _ (b : List ℕ) (y : Bytes b) (e : fileTest b ≡ Accepted) (d : declared (indexOffset b) (indexLength b) ≡ false) where
+  -- what is read: the characters from the header, the reads from the reader
+  abbrev again : File
+  again = record { flow-characters = flowCharacters b; key = keyCharacters b; index = noIndex; reads = readBack b }
+
+  no-index : parse b .index ≡ noIndex
+  unfolding parse
+  no-index = let u = undeclared (indexOffset b) (indexLength b) d in λ j. record { offset = u .0 j; bytes = part (u .0 j) (u .1 j) b }
+
+  same : again ≡ parse b
+  unfolding parse
+  same = λ j. record { flow-characters = flowCharacters b; key = keyCharacters b; index = sym no-index j; reads = reads-in-order b e y j }
+
+  pub written-again : (buffer : List ℕ) → length b ≤ length buffer
+      → writeEach buffer (record { flow-characters = flowCharacters b; key = keyCharacters b; index = noIndex; reads = readBack b })
+      ≡ record { outcome = record { answer = Accepted; length = length b }; buffer = putAt 0 b buffer }
+  written-again buffer h =
+      let l : layout (parse b) ≡ b = file-laid b y e in
+      let w = write-each (parse b) no-index (file-valid b y e) buffer (rw l h) in
+      ap (writeEach buffer) same ∙ (rw l at w)

@@ -3,24 +3,23 @@ use Prim.Native.Nat.{ℕ, suc, _+_, _≤_, _<_}
 use mathlib.Core.Path.{_≡_, ap}
 use mathlib.Core.Bool.{false}
 use mathlib.Core.Logic.{_↔_}
-use mathlib.Core.List.{List, _++_, map}
+use mathlib.Core.List.{List, [], _∷_, _++_}
 use lib.ListN.{length, take, drop}
 use Rattle.octets.specs.Parts.{putAt}
 use Rattle.octets.specs.Numbers.{Bytes}
 use Rattle.sff_format.specs.declared.Answer.the-variants.{Accepted, Refused}
 use Rattle.sff_format.specs.Answer.{numberOf, _then_}
 use Rattle.sff_format.specs.Rules.{declared}
-use Rattle.sff_format.specs.Model.{Read, File, noIndex, layoutRead, layout}
+use Rattle.sff_format.specs.Model.{Read, File, noIndex, layoutRead, layout, withReads}
 use Rattle.sff_format.specs.Valid.{ValidRead, Valid}
 use Rattle.sff_format.specs.HeaderTest.{indexOffset, indexLength, readCount, flowCharacters, keyCharacters}
 use Rattle.sff_format.specs.FileTest.{fileTest}
 use Rattle.sff_format.specs.Parse.{parse}
 use Rattle.sff_format.specs.Places.{readAt, place, readPlace}
 use Rattle.sff_format.specs.Insert.{insertFirst, insertLast, insertOf}
-use Rattle.sff_format.specs.View.{viewRead}
-use Rattle.sff_format.specs.Step.{State, fresh, stepTest, lastAnswer, viewsFound, readBack}
+use Rattle.sff_format.specs.Step.{State, fresh, stepTest, lastAnswer, readBack}
 use Rattle.sff_format.specs.Position.{positionTest, fileInsert, fileFirst, fileLast}
-use Rattle.sff_format.specs.Writing.{appendTest, writeEach, Holder, Lent, AllLent}
+use Rattle.sff_format.specs.Writing.{appendTest, appendBuffer, writeEach, Holder, Lent, AllLent}
 use Rattle.sff_format.proofs.Format.{accepted, one-file}
 use Rattle.sff_format.proofs.FileLaid.{file-laid}
 use Rattle.sff_format.proofs.FileTaken.{file-back}
@@ -28,7 +27,7 @@ use Rattle.sff_format.proofs.Places.{place-found, read-split}
 use Rattle.sff_format.proofs.Positions.{insert-chosen, first-chosen, last-chosen}
 use Rattle.sff_format.proofs.Inserted.{insert-within}
 use Rattle.sff_format.proofs.Writers.{write-each, write-exactly, append-exactly}
-use Rattle.sff_format.proofs.Rewritten.{written-back, written-again}
+use Rattle.sff_format.proofs.Rewritten.{written-back, written-again, append-afresh, append-valid}
 use Rattle.sff_format.proofs.Refusals.{file-zero, step-zero, append-zero, written-zero}
 use Rattle.sff_format.proofs.Steps.{steps-end, reads-in-order, then-33}
 
@@ -101,6 +100,12 @@ pub read-and-written-again : (b : List ℕ) → Bytes b → fileTest b ≡ Accep
     → writeEach buffer (record { flow-characters = flowCharacters b; key = keyCharacters b; index = noIndex; reads = readBack b })
     ≡ record { outcome = record { answer = Accepted; length = length b }; buffer = putAt 0 b buffer }
 read-and-written-again = written-again
+
+-- an append that is carried out leaves, at the front of the buffer, the file written afresh with one read more, which keeps the rules
+pub appended-afresh : (buffer : List ℕ) (len : ℕ) (r : Read) → Bytes buffer → Lent r → appendTest buffer len r ≡ Accepted
+    → (appendBuffer buffer len r ≡ putAt 0 (layout (withReads (parse (take len buffer) .reads ++ (r ∷ [])) (parse (take len buffer)))) buffer)
+    × Valid (withReads (parse (take len buffer) .reads ++ (r ∷ [])) (parse (take len buffer)))
+appended-afresh buffer len r y t a = (append-afresh buffer len r y a, append-valid buffer len r y a t)
 
 -- an append refuses a read exactly if no accepted file could hold it, where the file has no index and fewer reads than the count can say, and the buffer has room
 pub append-refuses-exactly : (buffer : List ℕ) (len : ℕ) (r : Read) → Bytes buffer → Lent r → len ≤ length buffer → fileTest (take len buffer) ≡ Accepted

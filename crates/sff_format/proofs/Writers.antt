@@ -38,7 +38,7 @@ use Rattle.sff_format.proofs.Appended.{reads-append, layout-plain, appe
 use Rattle.sff_format.proofs.Given.{or-left, or-right, given-valid, valid-given}
 
 -- a file with no index
-abbrev plain : List ℕ → List ℕ → List Read → File
+abbrev pub plain : List ℕ → List ℕ → List Read → File
 plain characters key rs = withReads rs (newFile characters key)
 
 undeclared : declared 0 0 ≡ false
@@ -83,7 +83,7 @@ module _ (characters key : List ℕ) (us : List Read) where
       plain-valid characters key us (v .characters-good) (v .header-fits) (omega (arith, l, n)) (valid-left characters us ws (v .reads-good))
 
   module _ (r : Read) where
-    abbrev more : List ℕ
+    abbrev pub more : List ℕ
     more = bytesOf 4 (length us + 1)
 
     -- the file with one read more, as an append writes it
@@ -93,12 +93,12 @@ module _ (characters key : List ℕ) (us : List Read) where
     room : 20 + length more ≤ length (layout (plain characters key us) ++ layoutRead r)
     room = let h = header-room in rw (length-bytesOf, length-append) (omega arith)
 
-    length-more : length (layout (plain characters key (us ++ (r ∷ [])))) ≡ length (layout (plain characters key us)) + length (layoutRead r)
+    pub length-more : length (layout (plain characters key (us ++ (r ∷ [])))) ≡ length (layout (plain characters key us)) + length (layoutRead r)
     length-more = rw (one-more, length-put 20 more (layout (plain characters key us) ++ layoutRead r) room, length-append)
 
     module _ (buffer : List ℕ) (fits : length (layout (plain characters key us)) ≤ length buffer) where
       -- an append writes the file with one read more where the file stood
-      appended-in : putAt 20 more (putAt (length (layout (plain characters key us))) (layoutRead r) (putAt 0 (layout (plain characters key us)) buffer))
+      pub appended-in : putAt 20 more (putAt (length (layout (plain characters key us))) (layoutRead r) (putAt 0 (layout (plain characters key us)) buffer))
           ≡ putAt 0 (layout (plain characters key (us ++ (r ∷ [])))) buffer
       appended-in =
           let L = layout (plain characters key us) in
@@ -115,12 +115,12 @@ append-ok buffer len r h f i n g m =
     both-ok _ _ (ok-under (length buffer) len _ _ h)
     (both-ok _ _ (both-ok _ _ f (both-ok _ _ (ok-when _ _ _ i) (ok-when _ _ _ n))) (both-ok _ _ g (ok-under (length buffer) (len + length (layoutRead r)) _ _ m)))
 
-append-done : (buffer : List ℕ) (len : ℕ) (r : Read) → appendTest buffer len r ≡ Accepted
+pub append-done : (buffer : List ℕ) (len : ℕ) (r : Read) → appendTest buffer len r ≡ Accepted
     → appendOutcome buffer len r ≡ record { answer = Accepted; length = len + length (layoutRead r) }
 unfolding appendOutcome acceptedOr
 append-done buffer len r e = rw e
 
-append-left : (buffer : List ℕ) (len : ℕ) (r : Read) → appendTest buffer len r ≡ Accepted
+pub append-left : (buffer : List ℕ) (len : ℕ) (r : Read) → appendTest buffer len r ≡ Accepted
     → appendBuffer buffer len r ≡ putAt 20 (bytesOf 4 (readCount (take len buffer) + 1)) (putAt len (layoutRead r) buffer)
 unfolding appendBuffer acceptedOr
 append-left buffer len r e = rw e
@@ -226,7 +226,7 @@ module _ (buffer characters key : List ℕ) (v : Valid (newFile characters key))
   new-buffer = rw new-accepted
 
 module _ (f : File) (e : f .index ≡ noIndex) where
-  is-plain : plain (f .flow-characters) (f .key) (f .reads) ≡ f
+  pub is-plain : plain (f .flow-characters) (f .key) (f .reads) ≡ f
   is-plain = λ j. record { flow-characters = f .flow-characters; key = f .key; index = sym e j; reads = f .reads }
 
   -- "Without one, a new file and an append for each read leave these bytes in any buffer that holds them"
@@ -313,7 +313,7 @@ new-refused : (buffer characters key : List ℕ) (n p : ℕ) → newTest (length
 unfolding newOutcome
 new-refused buffer characters key n p e = e
 
-valid-both : (characters : List ℕ) (us : List Read) (r : Read) → ValidReads characters us → ValidRead characters r → ValidReads characters (us ++ (r ∷ []))
+pub valid-both : (characters : List ℕ) (us : List Read) (r : Read) → ValidReads characters us → ValidRead characters r → ValidReads characters (us ++ (r ∷ []))
 valid-both characters [] r g h = (h, tt)
 valid-both characters (u ∷ us) r g h = (g .0, valid-both characters us r (g .1) h)
 

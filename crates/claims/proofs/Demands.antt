@@ -26,7 +26,8 @@ use Rattle.sff_format.proofs.FileTaken.{file-back}
 use Rattle.sff_format.proofs.Places.{place-found, read-split}
 use Rattle.sff_format.proofs.Positions.{insert-chosen, first-chosen, last-chosen}
 use Rattle.sff_format.proofs.Inserted.{insert-within}
-use Rattle.sff_format.proofs.Writers.{write-each, write-exactly, append-exactly}
+use Rattle.sff_format.proofs.Writers.{write-each, write-exactly}
+use Rattle.sff_format.proofs.Holders.{append-exactly}
 use Rattle.sff_format.proofs.Rewritten.{written-back, written-again, append-afresh, append-valid}
 use Rattle.sff_format.proofs.Refusals.{file-zero, step-zero, append-zero, written-zero}
 use Rattle.sff_format.proofs.Steps.{steps-end, reads-in-order, then-33}

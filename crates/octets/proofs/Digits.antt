@@ -1,11 +1,11 @@
 -- The laws of numbers and their bytes, over the width. Assumes nothing.
-use mathlib.Core.Path.{_≡_, refl, sym, ap, _∙_}
+use mathlib.Core.Path.{_≡_, refl, ap, _∙_}
 use mathlib.Core.List.{List, [], _∷_, _++_}
 use Prim.Native.Nat.{ℕ, zero, suc, _+_, _*_, _/_, _%_, _^_, _≤_, _<_}
-use native.Mathlib.Nat.{pow-zero, pow-suc, pow-succ', mod-one, mod-lt, mod-eq-of-lt, add-mul, mul-assoc, add-assoc, one-le-pow, div-one, mod-mod, div-div-eq-div-mul, add-comm, suc-add, zero-add}
+use native.Mathlib.Nat.{pow-zero, pow-succ', mod-one, mod-lt, mod-eq-of-lt, one-le-pow, div-one, mod-mod, div-div-eq-div-mul, add-comm, suc-add, zero-add}
 use native.Mathlib.Omega.{arith}
 use lib.Arith.{digits-lt, digits-div, digits-mod, mod-mul}
-use lib.ListN.{length, take, drop, getD, set, length-append}
+use lib.ListN.{length, getD, set}
 use native.Mathlib.Numerals.{add-one, add-two, add-three}
 use lib.Pow.{pow-add}
 use lib.Seq.{take-add, drop-drop}

@@ -3,13 +3,13 @@ use mathlib.Core.Path.{_≡_, refl, sym, ap, _∙_}
 use mathlib.Core.Bool.{Bool, true, false, cond}
 use lib.Dec.{leb}
 use mathlib.Core.List.{List, [], _∷_, _++_, append-assoc, append-nil}
-use Prim.Native.Nat.{ℕ, zero, suc, _+_, _-_, _≤_, _<_}
+use Prim.Native.Nat.{ℕ, suc, _+_, _-_, _≤_, _<_}
 use native.Mathlib.Nat.{add-zero, add-suc, add-assoc, suc-add, le-of-lt}
 use native.Mathlib.Numerals.{add-one}
 use native.Mathlib.Omega.{arith}
 use borrow.Author.Tests.{le-leb, lt-leb}
-use lib.ListN.{length, take, drop, set, getD, length-append, length-take, length-drop, length-set, take-append-drop, replicate, length-replicate, replicate-append-replicate, List·getD-append}
-use lib.Seq.{sets, sets-eq, drop-cons, length-take-le, take-suc, set-at, append-snoc, getD-append-add, getD-take, getD-drop, set-split, take-set-le, drop-set-lt, take-at, drop-at, drop-drop, take-take, take-add, take-append-seam, take-append-le, drop-append-le}
+use lib.ListN.{length, take, drop, set, getD, length-append, length-take, length-drop, take-append-drop, List·getD-append}
+use lib.Seq.{sets, sets-eq, drop-cons, length-take-le, take-suc, set-at, append-snoc, getD-append-add, getD-take, getD-drop, take-at, drop-at, drop-drop, take-take, take-add, take-append-seam, take-append-le, drop-append-le}
 use Rattle.octets.specs.Parts.{part, wholePart, putAt}
 
 -- the first of the elements of a part, and the rest

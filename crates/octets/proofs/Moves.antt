@@ -1,12 +1,12 @@
 -- The invariants of a loop that puts the list xs, of length n, into a slice at `at`, one store a turn: from its front (`Up`) or from its end (`Down`). Assumes nothing.
-use mathlib.Core.Path.{_≡_, refl, sym, ap, _∙_}
-use mathlib.Core.List.{List, [], _∷_, _++_, append-nil}
-use Prim.Native.Nat.{ℕ, zero, suc, _+_, _-_, _≤_, _<_}
-use native.Mathlib.Nat.{add-zero, add-suc, add-assoc, sub-add-cancel}
+use mathlib.Core.Path.{_≡_, refl, sym, _∙_}
+use mathlib.Core.List.{List}
+use Prim.Native.Nat.{ℕ, suc, _+_, _-_, _≤_, _<_}
+use native.Mathlib.Nat.{add-zero, add-assoc}
 use native.Mathlib.Numerals.{add-one}
 use native.Mathlib.Omega.{arith}
 use borrow.Author.Needs.{needs}
-use lib.ListN.{replicate, length-replicate, getD-replicate, length, take, drop, set, getD, length-take, length-drop, length-set, drop-of-length-le}
+use lib.ListN.{replicate, length-replicate, getD-replicate, length, take, drop, set, getD, length-set, drop-of-length-le}
 use lib.Seq.{take-suc, drop-cons, take-all, length-take-le}
 use Rattle.octets.specs.Parts.{putAt, part}
 use Rattle.octets.proofs.Lists.{put-nil, put-snoc, put-cons, getD-before, getD-after, length-part, getD-part}

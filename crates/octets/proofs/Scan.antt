@@ -1,18 +1,16 @@
 -- The laws of `firstNot`, over the test: what each turn of a scan that goes up shows. Assumes nothing.
-use mathlib.Core.Path.{_≡_, refl, sym, ap, _∙_}
+use mathlib.Core.Path.{_≡_, sym, _∙_}
 use mathlib.Core.Bool.{Bool, true, false, not}
-use mathlib.Core.List.{List, [], _∷_, _++_}
-use Prim.Native.Nat.{ℕ, zero, suc, _+_, _-_, _≤_, _<_}
+use mathlib.Core.List.{List, [], _∷_}
+use Prim.Native.Nat.{ℕ, suc, _+_, _-_, _≤_, _<_}
 use native.Mathlib.Nat.{add-zero, zero-add, add-assoc}
-use native.Mathlib.Numerals.{add-one}
 use native.Mathlib.Omega.{arith}
 use borrow.Author.Needs.{needs}
 use borrow.Author.Tests.{not-true, not-false}
-use lib.ListN.{length, take, drop, getD}
+use lib.ListN.{length, getD}
 use lib.Seq.{take-length}
 use Rattle.octets.proofs.Lists.{part-suc}
 use Rattle.octets.specs.Scans.{firstNot, run, oneMore}
-use Rattle.octets.specs.Parts.{part}
 
 module _ (p : ℕ → Bool) (i to : ℕ) (l : List ℕ) where
   -- the element at i fails

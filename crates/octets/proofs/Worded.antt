@@ -1,7 +1,7 @@
 -- The invariant of a loop that puts numbers of 2 bytes into a slice from `at` on, one number a turn. Assumes nothing.
 use mathlib.Core.Path.{_≡_, refl, sym, ap, _∙_}
 use mathlib.Core.List.{List, [], _∷_, _++_, append-assoc, append-nil}
-use Prim.Native.Nat.{ℕ, suc, _+_, _*_, _/_, _%_, _≤_, _<_}
+use Prim.Native.Nat.{ℕ, _+_, _*_, _/_, _%_, _≤_, _<_}
 use native.Mathlib.Numerals.{add-one}
 use native.Mathlib.Omega.{arith}
 use borrow.Author.Needs.{needs}
@@ -9,7 +9,7 @@ use lib.ListN.{length, take, set, getD, length-set}
 use lib.Seq.{take-suc, take-all, length-take-le}
 use Rattle.octets.specs.Parts.{putAt}
 use Rattle.octets.specs.Numbers.{bytesOf, words}
-use Rattle.octets.proofs.Lists.{put-nil, put-next, length-put}
+use Rattle.octets.proofs.Lists.{put-nil, put-next}
 use Rattle.octets.proofs.Digits.{put-two}
 use Rattle.octets.proofs.Stands.{length-words}
 

@@ -1,6 +1,6 @@
 -- The number of reads decides of the header the count at 20 alone; a read appended is its sections at the end, and that count. Assumes nothing.
 use Prim.Native.Nat.{ℕ, _+_, _-_}
-use mathlib.Core.Path.{_≡_, refl, sym, ap, _∙_}
+use mathlib.Core.Path.{_≡_, refl, sym, _∙_}
 use mathlib.Core.List.{List, [], _∷_, _++_, append-assoc, append-nil}
 use lib.ListN.{length, replicate, length-append}
 use lib.Seq.{take-append-seam, drop-append-seam, drop-append-add}

@@ -20,10 +20,11 @@ pub mod Views
 pub mod Inserted
 pub mod Positions
 pub mod Steps
--- Writing: a read appended, and one that is lent to be written.
+-- Writing: a read appended, one that is lent to be written, the writers one after another, and what they leave read back.
 pub mod Appended
 pub mod Given
 pub mod Writers
+pub mod Holders
 pub mod Rewritten
 -- No refusal has the number 0.
 pub mod Refusals

@@ -11,7 +11,7 @@ use Rattle.sff_format.specs.declared.Answer.the-variants.{Accepted}
 use Rattle.octets.specs.Numbers.{number, fields, words, wordsAt}
 use Rattle.sff_format.specs.Model.{Read, readFields, layoutReadHeader, layoutReadData, layoutRead}
 use Rattle.sff_format.specs.Rules.{leftLimit, rightLimit}
-use Rattle.sff_format.specs.ReadTest.{sectionLength, nameLength, baseCount, qualityLeft, qualityRight, adapterLeft, adapterRight, nameTest, clipTest, basesTest, dataTest, readTest, readEnd}
+use Rattle.sff_format.specs.ReadTest.{sectionLength, nameLength, baseCount, qualityLeft, qualityRight, adapterLeft, adapterRight, nameTest, clipTest, dataTest, readTest, readEnd}
 use Rattle.sff_format.specs.Parse.{parseRead}
 use Rattle.sff_format.specs.Valid.{ValidRead}
 use Rattle.sff_format.proofs.Answers.{both-ok, ok-under, ok-same, ok-scan, ok-shifted, ok-bases}

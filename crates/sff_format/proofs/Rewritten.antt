@@ -1,6 +1,6 @@
 -- What the writers leave is read back as it was written, and what was read is written again as it was. Assumes nothing.
 use Prim.Native.Nat.{ℕ, _+_, _≤_}
-use mathlib.Core.Path.{_≡_, refl, sym, ap, _∙_}
+use mathlib.Core.Path.{_≡_, sym, ap, _∙_}
 use mathlib.Core.Bool.{false}
 use mathlib.Core.List.{List, [], _∷_, _++_}
 use native.Mathlib.Omega.{arith}
@@ -13,11 +13,11 @@ use Rattle.octets.proofs.Lists.{take-front}
 use Rattle.octets.proofs.AllBytes.{bytes-take}
 use Rattle.sff_format.specs.declared.Answer.the-variants.{Accepted}
 use Rattle.sff_format.specs.Rules.{declared}
-use Rattle.sff_format.specs.Model.{Read, Index, File, noIndex, layout, withReads}
+use Rattle.sff_format.specs.Model.{Read, File, noIndex, layout, withReads}
 use Rattle.sff_format.specs.Valid.{Valid}
 use Rattle.sff_format.specs.HeaderTest.{indexOffset, indexLength, readCount, headerLength, flowCharacters, keyCharacters}
 use Rattle.sff_format.specs.FileTest.{fileTest}
-use Rattle.sff_format.specs.Parse.{parse, parseReads}
+use Rattle.sff_format.specs.Parse.{parse}
 use Rattle.sff_format.specs.Step.{readBack}
 use Rattle.sff_format.specs.Writing.{givenTest, openTest, appendTest, appendBuffer, writeEach, Lent}
 use Rattle.sff_format.proofs.Answers.{first-ok, second-ok, when-ok, under-ok}
@@ -27,7 +27,7 @@ use Rattle.sff_format.proofs.FileTaken.{file-taken, file-back}
 use Rattle.sff_format.proofs.Written.{layout-bytes}
 use Rattle.sff_format.proofs.Steps.{reads-in-order}
 use Rattle.sff_format.proofs.Given.{given-valid}
-use Rattle.sff_format.proofs.Writers.{plain, plain-valid, valid-both, more, appended-in, append-left, is-plain, write-each}
+use Rattle.sff_format.proofs.Writers.{plain, plain-valid, valid-both, appended-in, append-left, is-plain, write-each}
 
 -- the reader gives the reads of a file that keeps the rules
 laid-back : (f : File) → Valid f → readBack (layout f) ≡ f .reads

@@ -1,8 +1,8 @@
 -- Steps from a fresh state: the reads in order, each once, then 33; or the whole-file test's refusal at last. Assumes nothing.
-use Prim.Native.Nat.{ℕ, zero, suc, _+_, _*_, _≤_}
+use Prim.Native.Nat.{ℕ, zero, suc, _+_, _≤_}
 use mathlib.Core.Path.{_≡_, refl, sym, ap, _∙_}
 use mathlib.Core.Bool.{Bool, true, false, cond}
-use mathlib.Core.List.{List, [], _∷_, map}
+use mathlib.Core.List.{List, map}
 use native.Mathlib.Omega.{arith}
 use lib.ListN.{length}
 use borrow.Author.Tests.{lt-ltb, le-ltb}
@@ -13,11 +13,11 @@ use Rattle.sff_format.specs.Answer.{when, _then_}
 use Rattle.sff_format.specs.Rules.{indexSize}
 use Rattle.sff_format.specs.HeaderTest.{indexLength, headerTest, headerLength, flows, flowCharacters, readCount}
 use Rattle.sff_format.specs.ReadTest.{readTest, readEnd}
-use Rattle.sff_format.specs.FileTest.{indexHere, passTest, indexTest, pastIndex, nowPassed, endTest, boundaryTest, fileTest}
+use Rattle.sff_format.specs.FileTest.{indexHere, passTest, indexTest, pastIndex, endTest, boundaryTest, fileTest}
 use Rattle.sff_format.specs.Step.{State, found, stop, concluded, stepTest, readOrNone, moved, boundary, indexPassed, step, freshPlace, fresh, onStop, lastAnswer, onFound, viewsFound, readBack}
 use Rattle.sff_format.specs.View.{viewAt, viewRead}
 use Rattle.sff_format.specs.Parse.{parseRead, parseReads, parse}
-use Rattle.sff_format.proofs.Answers.{first-ok, second-ok, both-ok, under-ok, then-accepted, then-assoc, then-on}
+use Rattle.sff_format.proofs.Answers.{second-ok, under-ok, then-accepted, then-assoc, then-on}
 use Rattle.sff_format.proofs.HeaderLaws.{header-fits, characters-length}
 use Rattle.sff_format.proofs.Boundaries.{accepted-none, accepted-read}
 use Rattle.sff_format.proofs.FileLaid.{head-ok, sections-ok}

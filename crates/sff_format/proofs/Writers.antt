@@ -1,39 +1,32 @@
--- A new file and an append for each read leave the file written afresh; a read is refused exactly if no accepted file could hold it. Assumes nothing.
-use Prim.Native.Nat.{ℕ, zero, suc, _+_, _≤_, _<_}
+-- A new file and an append for each read leave the file written afresh, and are carried out exactly if it keeps the rules and the buffer holds it. Assumes nothing.
+use Prim.Native.Nat.{ℕ, _+_, _≤_, _<_}
 use mathlib.Core.Path.{_≡_, refl, sym, ap, _∙_}
-use mathlib.Core.Bool.{true, false, _||_}
+use mathlib.Core.Bool.{false, _||_}
 use mathlib.Core.Logic.{_↔_}
 use mathlib.Core.List.{List, [], _∷_, _++_, append-assoc, append-nil}
 use native.Mathlib.Omega.{arith}
-use lib.ListN.{length, take, getD, length-append}
+use lib.ListN.{length, take, length-append}
 use lib.Dec.{eqb}
 use borrow.Author.Tests.{ne-eqb, eqb-false}
 use Rattle.octets.specs.Parts.{putAt, up8}
-use Rattle.octets.specs.Numbers.{Bytes, bytesOf}
+use Rattle.octets.specs.Numbers.{bytesOf}
 use Rattle.octets.specs.Scans.{Every, fails, isFlowCharacter}
 use Rattle.octets.proofs.Lists.{length-put, put-next, take-front, put-front}
-use Rattle.octets.proofs.AllBytes.{bytes-take}
 use Rattle.octets.proofs.Digits.{length-bytesOf}
 use Rattle.octets.proofs.Every.{none-fails, every-passes, every-left, every-right, every-both}
 use Rattle.sff_format.specs.declared.Answer.{Answer}
 use Rattle.sff_format.specs.declared.Answer.the-variants.{Accepted, Refused}
-use Rattle.sff_format.specs.declared.Outcome.{Outcome}
-use Rattle.sff_format.specs.Answer.{_then_}
 use Rattle.sff_format.specs.Rules.{declared, badIndex}
-use Rattle.sff_format.specs.Model.{Read, Index, File, noIndex, layoutRead, layoutReads, layoutHeader, layout, withReads}
+use Rattle.sff_format.specs.Model.{Read, File, noIndex, layoutRead, layout, withReads}
 use Rattle.sff_format.specs.Valid.{ValidRead, ValidReads, Valid}
 use Rattle.sff_format.specs.HeaderTest.{indexOffset, indexLength, readCount, flowCharacters}
 use Rattle.sff_format.specs.FileTest.{fileTest}
-use Rattle.sff_format.specs.Parse.{parse}
-use Rattle.sff_format.specs.Places.{noRead, readAt}
 use Rattle.sff_format.specs.Position.{acceptedOr}
-use Rattle.sff_format.specs.Writing.{newFile, newTest, newOutcome, newBuffer, givenTest, openTest, appendTest, appendOutcome, appendBuffer, Left, appendEach, writeEach, Holder, Lent, AllLent}
+use Rattle.sff_format.specs.Writing.{newFile, newTest, newOutcome, newBuffer, givenTest, openTest, appendTest, appendOutcome, appendBuffer, Left, appendEach, writeEach, Lent, AllLent}
 use Rattle.sff_format.proofs.Answers.{first-ok, second-ok, both-ok, when-ok, ok-when, under-ok, ok-under, not-accepted}
 use Rattle.sff_format.proofs.Sizes.{length-header}
 use Rattle.sff_format.proofs.HeaderLaws.{offset-is, index-length-is, count-is, characters-are}
-use Rattle.sff_format.proofs.FileLaid.{length-parsed, file-valid}
-use Rattle.sff_format.proofs.FileTaken.{header-first, file-taken, file-back}
-use Rattle.sff_format.proofs.Written.{layout-bytes}
+use Rattle.sff_format.proofs.FileTaken.{header-first, file-taken}
 use Rattle.sff_format.proofs.Appended.{reads-append, layout-plain, appended}
 use Rattle.sff_format.proofs.Given.{or-left, or-right, given-valid, valid-given}
 
@@ -107,7 +100,7 @@ module _ (characters key : List ℕ) (us : List Read) where
           rw (p, one-more) (put-front 20 more (L ++ layoutRead r) buffer room)
 
 -- an append is carried out where no reason to refuse holds
-append-ok : (buffer : List ℕ) (len : ℕ) (r : Read) → len ≤ length buffer → fileTest (take len buffer) ≡ Accepted
+pub append-ok : (buffer : List ℕ) (len : ℕ) (r : Read) → len ≤ length buffer → fileTest (take len buffer) ≡ Accepted
     → declared (indexOffset (take len buffer)) (indexLength (take len buffer)) ≡ false → eqb (readCount (take len buffer)) 4294967295 ≡ false
     → givenTest (flowCharacters (take len buffer)) r ≡ Accepted → len + length (layoutRead r) ≤ length buffer → appendTest buffer len r ≡ Accepted
 unfolding appendTest openTest
@@ -241,63 +234,6 @@ module _ (f : File) (e : f .index ≡ noIndex) where
       let n = valid-front c k [] (f .reads) w in
       let m : length (layout (newFile c k)) ≤ length buffer = let a = layout-le c k [] (f .reads) in omega arith in
       rw (new-outcome buffer c k n m, new-buffer buffer c k n m) (each-written c k buffer [] (f .reads) w l ∙ ap (written buffer) is-plain)
-
--- each of the reads that keep the rules does
-valid-at : (characters : List ℕ) (rs : List Read) (i : ℕ) → i < length rs → ValidReads characters rs → ValidRead characters (getD rs i noRead)
-valid-at characters [] i h g = absurd (let a : ⊥ = omega arith in a)
-valid-at characters (r ∷ rs) zero h g = g .0
-valid-at characters (r ∷ rs) (suc i) h g = valid-at characters rs i (omega arith) (g .1)
-
-module _ (characters : List ℕ) (r : Read) where
-  -- a read that an accepted file holds keeps the rules of its flow characters
-  holder-valid : Holder characters r → ValidRead characters r
-  unfolding parse
-  holder-valid h =
-      let v = file-valid (h .file) (h .bytes) (h .accepted) in
-      let n : length (parse (h .file) .reads) ≡ readCount (h .file) = length-parsed (h .file) (readCount (h .file)) _ false in
-      let i = h .inside in
-      rw (h .characters-same, h .holds) at (valid-at (flowCharacters (h .file)) (parse (h .file) .reads) (h .position) (omega (arith, n, i)) (v .reads-good))
-
--- and one that keeps the rules of an accepted file's flow characters is held by an accepted file with these: the one written with that read alone
-module _ (b : List ℕ) (y : Bytes b) (e : fileTest b ≡ Accepted) (r : Read) (g : ValidRead (flowCharacters b) r) where
-  alone : File
-  alone = plain (flowCharacters b) (parse b .key) (r ∷ [])
-
-  alone-valid : Valid alone
-  unfolding alone parse
-  alone-valid =
-      let v = file-valid b y e in
-      plain-valid (flowCharacters b) (parse b .key) (r ∷ []) (v .characters-good) (v .header-fits) (omega arith) (g, tt)
-
-  valid-holder : Holder (flowCharacters b) r
-  unfolding alone
-  valid-holder =
-      let f = plain (flowCharacters b) (parse b .key) (r ∷ []) in
-      let n : readCount (layout f) ≡ 1 = count-is (layout f) f alone-valid (header-first f alone-valid) in
-      record {
-        file = layout f;
-        bytes = layout-bytes f alone-valid;
-        accepted = file-taken f alone-valid;
-        characters-same = characters-are (layout f) f alone-valid (header-first f alone-valid);
-        position = 0;
-        inside = omega (arith, n);
-        holds = ap (λ (g : File). readAt g 0) (file-back f alone-valid);
-      }
-
--- In a buffer with room, after a file with no index and fewer reads than the count can say, an append is carried out exactly if some accepted file could hold the read.
-module _ (buffer : List ℕ) (len : ℕ) (r : Read) (y : Bytes buffer) (t : Lent r) (h : len ≤ length buffer) (e : fileTest (take len buffer) ≡ Accepted)
-    (i : declared (indexOffset (take len buffer)) (indexLength (take len buffer)) ≡ false) (n : readCount (take len buffer) < 4294967295)
-    (m : len + length (layoutRead r) ≤ length buffer) where
-  given-ok : appendTest buffer len r ≡ Accepted → givenTest (flowCharacters (take len buffer)) r ≡ Accepted
-  unfolding appendTest
-  given-ok a = first-ok _ _ (second-ok _ _ (second-ok _ _ a))
-
-  pub append-exactly : (appendTest buffer len r ≡ Accepted) ↔ Holder (flowCharacters (take len buffer)) r
-  append-exactly = (
-    (λ a. valid-holder (take len buffer) (bytes-take len buffer y) e r (given-valid (flowCharacters (take len buffer)) r t (given-ok a))),
-    (λ k. append-ok buffer len r h e i (ne-eqb (readCount (take len buffer)) 4294967295 (λ q. let a : ⊥ = omega (arith, n, q) in a))
-        (valid-given (flowCharacters (take len buffer)) r (holder-valid (flowCharacters (take len buffer)) r k)) m),
-  )
 
 -- a writer that was refused stays so
 stays : (w : Left) (rs : List Read) (n p : ℕ) → w .outcome .answer ≡ Refused n p → appendEach w rs .outcome .answer ≡ Refused n p

@@ -16,10 +16,10 @@ use sff_format::Outcome;
 use sff_header::inner::header_fields;
 use sff_header::inner::is_declared;
 use sff_read::inner::clip_test;
-use sff_sections::header_size;
-use sff_sections::put_new_header;
-use sff_sections::put_read;
-use sff_sections::read_size;
+use sff_sections::inner::header_size;
+use sff_sections::inner::put_new_header;
+use sff_sections::inner::put_read;
+use sff_sections::inner::read_size;
 use sff_walk::BasePosition;
 use sff_walk::inner::bases_test;
 

@@ -1,7 +1,7 @@
 use Rattle.sff_sections.proofs.Sections.{read-put}
 use borrow.Author.Needs.{needs}
-use Rattle.sff_sections.proofs.put_read.Statement.{statement}
-use Rattle.sff_sections.proofs.put_read.Tie as tie
+use Rattle.sff_sections.proofs.inner.put_read.Statement.{statement}
+use Rattle.sff_sections.proofs.inner.put_read.Tie as tie
 
 pub put-read-spec : {M : Type 1} → statement M
 put-read-spec =

@@ -1,7 +1,7 @@
 use Rattle.sff_sections.proofs.Pieces.{start-put}
 use borrow.Author.Needs.{needs}
-use Rattle.sff_sections.proofs.put_start_fields.Statement.{statement}
-use Rattle.sff_sections.proofs.put_start_fields.Tie as tie
+use Rattle.sff_sections.proofs.inner.put_start_fields.Statement.{statement}
+use Rattle.sff_sections.proofs.inner.put_start_fields.Tie as tie
 
 pub put-start-fields-spec : {M : Type 1} → statement M
 put-start-fields-spec =

@@ -1,7 +1,7 @@
 use Rattle.sff_sections.proofs.Pieces.{section-put}
 use borrow.Author.Needs.{needs}
-use Rattle.sff_sections.proofs.put_section_fields.Statement.{statement}
-use Rattle.sff_sections.proofs.put_section_fields.Tie as tie
+use Rattle.sff_sections.proofs.inner.put_section_fields.Statement.{statement}
+use Rattle.sff_sections.proofs.inner.put_section_fields.Tie as tie
 
 pub put-section-fields-spec : {M : Type 1} → statement M
 put-section-fields-spec =

@@ -1,7 +1,7 @@
 use Rattle.sff_sections.proofs.Pieces.{data-put}
 use borrow.Author.Needs.{needs}
-use Rattle.sff_sections.proofs.put_read_data.Statement.{statement}
-use Rattle.sff_sections.proofs.put_read_data.Tie as tie
+use Rattle.sff_sections.proofs.inner.put_read_data.Statement.{statement}
+use Rattle.sff_sections.proofs.inner.put_read_data.Tie as tie
 
 pub put-read-data-spec : {M : Type 1} → statement M
 put-read-data-spec =

@@ -1,7 +1,7 @@
 use Rattle.sff_sections.proofs.Pieces.{zeros-put}
 use borrow.Author.Needs.{needs}
-use Rattle.sff_sections.proofs.put_padding.Statement.{statement}
-use Rattle.sff_sections.proofs.put_padding.Tie as tie
+use Rattle.sff_sections.proofs.inner.put_padding.Statement.{statement}
+use Rattle.sff_sections.proofs.inner.put_padding.Tie as tie
 
 pub put-padding-spec : {M : Type 1} → statement M
 put-padding-spec =

@@ -1,7 +1,7 @@
 use Rattle.sff_sections.proofs.Pieces.{head-put}
 use borrow.Author.Needs.{needs}
-use Rattle.sff_sections.proofs.put_read_header.Statement.{statement}
-use Rattle.sff_sections.proofs.put_read_header.Tie as tie
+use Rattle.sff_sections.proofs.inner.put_read_header.Statement.{statement}
+use Rattle.sff_sections.proofs.inner.put_read_header.Tie as tie
 
 pub put-read-header-spec : {M : Type 1} → statement M
 put-read-header-spec =

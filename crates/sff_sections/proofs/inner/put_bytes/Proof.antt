@@ -1,7 +1,7 @@
 use Rattle.sff_sections.proofs.Pieces.{bytes-put}
 use borrow.Author.Needs.{needs}
-use Rattle.sff_sections.proofs.put_bytes.Statement.{statement}
-use Rattle.sff_sections.proofs.put_bytes.Tie as tie
+use Rattle.sff_sections.proofs.inner.put_bytes.Statement.{statement}
+use Rattle.sff_sections.proofs.inner.put_bytes.Tie as tie
 
 pub put-bytes-spec : {M : Type 1} → statement M
 put-bytes-spec = tie.close (tie.spec (λ c κs. search needs) (λ c. search needs) (λ c. search bytes-put))

@@ -1,7 +1,7 @@
 use Rattle.sff_sections.proofs.Sections.{new-put}
 use borrow.Author.Needs.{needs}
-use Rattle.sff_sections.proofs.put_new_header.Statement.{statement}
-use Rattle.sff_sections.proofs.put_new_header.Tie as tie
+use Rattle.sff_sections.proofs.inner.put_new_header.Statement.{statement}
+use Rattle.sff_sections.proofs.inner.put_new_header.Tie as tie
 
 pub put-new-header-spec : {M : Type 1} → statement M
 put-new-header-spec =

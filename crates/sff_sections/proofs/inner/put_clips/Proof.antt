@@ -1,7 +1,7 @@
 use Rattle.sff_sections.proofs.Pieces.{clips-put}
 use borrow.Author.Needs.{needs}
-use Rattle.sff_sections.proofs.put_clips.Statement.{statement}
-use Rattle.sff_sections.proofs.put_clips.Tie as tie
+use Rattle.sff_sections.proofs.inner.put_clips.Statement.{statement}
+use Rattle.sff_sections.proofs.inner.put_clips.Tie as tie
 
 pub put-clips-spec : {M : Type 1} → statement M
 put-clips-spec =

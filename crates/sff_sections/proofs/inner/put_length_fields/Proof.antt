@@ -1,8 +1,8 @@
 use lib.ListN.{length-set}
 use Rattle.sff_sections.proofs.Pieces.{lengths-put}
 use borrow.Author.Needs.{needs}
-use Rattle.sff_sections.proofs.put_length_fields.Statement.{statement}
-use Rattle.sff_sections.proofs.put_length_fields.Tie as tie
+use Rattle.sff_sections.proofs.inner.put_length_fields.Statement.{statement}
+use Rattle.sff_sections.proofs.inner.put_length_fields.Tie as tie
 
 pub put-length-fields-spec : {M : Type 1} → statement M
 put-length-fields-spec =

@@ -1,0 +1,84 @@
+-- A read that is lent is refused exactly if no accepted file could hold it. Assumes nothing.
+use Prim.Native.Nat.{ℕ, zero, suc, _+_, _≤_, _<_}
+use mathlib.Core.Path.{_≡_, ap}
+use mathlib.Core.Bool.{false}
+use mathlib.Core.Logic.{_↔_}
+use mathlib.Core.List.{List, [], _∷_}
+use native.Mathlib.Omega.{arith}
+use lib.ListN.{length, take, getD}
+use borrow.Author.Tests.{ne-eqb}
+use Rattle.octets.specs.Numbers.{Bytes}
+use Rattle.octets.proofs.AllBytes.{bytes-take}
+use Rattle.sff_format.specs.declared.Answer.the-variants.{Accepted}
+use Rattle.sff_format.specs.Rules.{declared}
+use Rattle.sff_format.specs.Model.{Read, File, layoutRead, layout}
+use Rattle.sff_format.specs.Valid.{ValidRead, ValidReads, Valid}
+use Rattle.sff_format.specs.HeaderTest.{indexOffset, indexLength, readCount, flowCharacters}
+use Rattle.sff_format.specs.FileTest.{fileTest}
+use Rattle.sff_format.specs.Parse.{parse}
+use Rattle.sff_format.specs.Places.{noRead, readAt}
+use Rattle.sff_format.specs.Writing.{givenTest, appendTest, Holder, Lent}
+use Rattle.sff_format.proofs.Answers.{first-ok, second-ok}
+use Rattle.sff_format.proofs.HeaderLaws.{count-is, characters-are}
+use Rattle.sff_format.proofs.FileLaid.{length-parsed, file-valid}
+use Rattle.sff_format.proofs.FileTaken.{header-first, file-taken, file-back}
+use Rattle.sff_format.proofs.Written.{layout-bytes}
+use Rattle.sff_format.proofs.Given.{given-valid, valid-given}
+use Rattle.sff_format.proofs.Writers.{plain, plain-valid, append-ok}
+
+-- each of the reads that keep the rules does
+valid-at : (characters : List ℕ) (rs : List Read) (i : ℕ) → i < length rs → ValidReads characters rs → ValidRead characters (getD rs i noRead)
+valid-at characters [] i h g = absurd (let a : ⊥ = omega arith in a)
+valid-at characters (r ∷ rs) zero h g = g .0
+valid-at characters (r ∷ rs) (suc i) h g = valid-at characters rs i (omega arith) (g .1)
+
+module _ (characters : List ℕ) (r : Read) where
+  -- a read that an accepted file holds keeps the rules of its flow characters
+  holder-valid : Holder characters r → ValidRead characters r
+  unfolding parse
+  holder-valid h =
+      let v = file-valid (h .file) (h .bytes) (h .accepted) in
+      let n : length (parse (h .file) .reads) ≡ readCount (h .file) = length-parsed (h .file) (readCount (h .file)) _ false in
+      let i = h .inside in
+      rw (h .characters-same, h .holds) at (valid-at (flowCharacters (h .file)) (parse (h .file) .reads) (h .position) (omega (arith, n, i)) (v .reads-good))
+
+-- and one that keeps the rules of an accepted file's flow characters is held by an accepted file with these: the one written with that read alone
+module _ (b : List ℕ) (y : Bytes b) (e : fileTest b ≡ Accepted) (r : Read) (g : ValidRead (flowCharacters b) r) where
+  alone : File
+  alone = plain (flowCharacters b) (parse b .key) (r ∷ [])
+
+  alone-valid : Valid alone
+  unfolding alone parse
+  alone-valid =
+      let v = file-valid b y e in
+      plain-valid (flowCharacters b) (parse b .key) (r ∷ []) (v .characters-good) (v .header-fits) (omega arith) (g, tt)
+
+  valid-holder : Holder (flowCharacters b) r
+  unfolding alone
+  valid-holder =
+      let f = plain (flowCharacters b) (parse b .key) (r ∷ []) in
+      let n : readCount (layout f) ≡ 1 = count-is (layout f) f alone-valid (header-first f alone-valid) in
+      record {
+        file = layout f;
+        bytes = layout-bytes f alone-valid;
+        accepted = file-taken f alone-valid;
+        characters-same = characters-are (layout f) f alone-valid (header-first f alone-valid);
+        position = 0;
+        inside = omega (arith, n);
+        holds = ap (λ (g : File). readAt g 0) (file-back f alone-valid);
+      }
+
+-- In a buffer with room, after a file with no index and fewer reads than the count can say, an append is carried out exactly if some accepted file could hold the read.
+module _ (buffer : List ℕ) (len : ℕ) (r : Read) (y : Bytes buffer) (t : Lent r) (h : len ≤ length buffer) (e : fileTest (take len buffer) ≡ Accepted)
+    (i : declared (indexOffset (take len buffer)) (indexLength (take len buffer)) ≡ false) (n : readCount (take len buffer) < 4294967295)
+    (m : len + length (layoutRead r) ≤ length buffer) where
+  given-ok : appendTest buffer len r ≡ Accepted → givenTest (flowCharacters (take len buffer)) r ≡ Accepted
+  unfolding appendTest
+  given-ok a = first-ok _ _ (second-ok _ _ (second-ok _ _ a))
+
+  pub append-exactly : (appendTest buffer len r ≡ Accepted) ↔ Holder (flowCharacters (take len buffer)) r
+  append-exactly = (
+    (λ a. valid-holder (take len buffer) (bytes-take len buffer y) e r (given-valid (flowCharacters (take len buffer)) r t (given-ok a))),
+    (λ k. append-ok buffer len r h e i (ne-eqb (readCount (take len buffer)) 4294967295 (λ q. let a : ⊥ = omega (arith, n, q) in a))
+        (valid-given (flowCharacters (take len buffer)) r (holder-valid (flowCharacters (take len buffer)) r k)) m),
+  )

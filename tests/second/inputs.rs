@@ -3,8 +3,6 @@
 
 #![allow(dead_code)]
 
-use crate::sff;
-
 /// A small generator of numbers (splitmix64).
 pub struct Random {
     state: u64,
@@ -181,7 +179,7 @@ pub fn set(bytes: &mut [u8], place: usize, width: usize, value: u64) {
 }
 
 /// The number of `width` bytes at a place, 0 if the file does not reach that far.
-fn get(bytes: &[u8], place: usize, width: usize) -> u64 {
+pub fn get(bytes: &[u8], place: usize, width: usize) -> u64 {
     if place + width > bytes.len() {
         return 0;
     }
@@ -196,18 +194,18 @@ fn set_byte(bytes: &mut [u8], place: usize, value: u8) {
 
 // Valid files.
 
-fn letters(random: &mut Random, count: usize) -> Vec<u8> {
+pub fn letters(random: &mut Random, count: usize) -> Vec<u8> {
     (0..count).map(|_| random.pick(b"ACGT")).collect()
 }
 
-fn flow_characters(random: &mut Random, count: usize) -> Vec<u8> {
+pub fn flow_characters(random: &mut Random, count: usize) -> Vec<u8> {
     if random.one_in(2) {
         return letters(random, count);
     }
     (0..count).map(|flow| b"TACG"[flow % 4]).collect()
 }
 
-fn name(random: &mut Random) -> Vec<u8> {
+pub fn name(random: &mut Random) -> Vec<u8> {
     let length = match random.below(24) {
         0 => random.between(200, 700),
         1..=4 => 0,
@@ -240,7 +238,7 @@ fn walk(random: &mut Random, flows: usize, bases: usize) -> Vec<u8> {
 }
 
 /// The flow position of each base of a walk.
-fn positions(increments: &[u8]) -> Vec<usize> {
+pub fn positions(increments: &[u8]) -> Vec<usize> {
     let mut position = 0;
     let mut all = Vec::new();
     for increment in increments {
@@ -250,7 +248,7 @@ fn positions(increments: &[u8]) -> Vec<usize> {
     all
 }
 
-fn read(random: &mut Random, flows: &[u8], bases: usize) -> Read {
+pub fn read(random: &mut Random, flows: &[u8], bases: usize) -> Read {
     let increments = walk(random, flows.len(), bases);
     let called = positions(&increments)
         .iter()
@@ -297,7 +295,7 @@ fn index_bytes(random: &mut Random) -> Vec<u8> {
     }
 }
 
-fn model(random: &mut Random, reads: usize) -> Model {
+pub fn model(random: &mut Random, reads: usize) -> Model {
     let flow_count = match random.below(20) {
         0..=2 => 0,
         3 => random.between(256, 700),
@@ -340,7 +338,7 @@ fn model(random: &mut Random, reads: usize) -> Model {
     }
 }
 
-fn valid(random: &mut Random) -> Vec<u8> {
+pub fn valid(random: &mut Random) -> Vec<u8> {
     let reads = match random.below(20) {
         0..=2 => 0,
         3 => random.between(8, 40),
@@ -861,10 +859,15 @@ fn flip(random: &mut Random, _: &Sound, bytes: &mut Vec<u8>) {
     }
 }
 
-fn damaged(random: &mut Random, damages: usize) -> Vec<u8> {
+pub fn damaged(random: &mut Random, damages: usize) -> Vec<u8> {
     // Few reads, so that two damages often meet in one of them.
     let reads = random.pick(&[0, 1, 1, 1, 1, 1, 2, 2, 3]);
     let model = model(random, reads);
+    damaged_from(random, model, damages)
+}
+
+/// A damaged file of this model.
+pub fn damaged_from(random: &mut Random, model: Model, damages: usize) -> Vec<u8> {
     let layout = lay_out(&model);
     let sound = Sound { model, layout };
     let mut bytes = sound.layout.bytes.clone();
@@ -888,7 +891,7 @@ fn damaged(random: &mut Random, damages: usize) -> Vec<u8> {
 
 // Files near the greatest size, and beyond it.
 
-fn large(random: &mut Random) -> Vec<u8> {
+pub fn large(random: &mut Random) -> Vec<u8> {
     match random.below(7) {
         0 => filled(random, 65_536),
         1 | 6 => {
@@ -969,7 +972,7 @@ fn filled(random: &mut Random, size: usize) -> Vec<u8> {
 }
 
 /// Bytes that are hardly a file, or only begin as one.
-fn junk(random: &mut Random) -> Vec<u8> {
+pub fn junk(random: &mut Random) -> Vec<u8> {
     let length = random.pick(&[0, 1, 4, 30, 31, 32, 33, 40, 100]);
     let mut bytes = if random.one_in(2) {
         vec![0; length]
@@ -982,10 +985,15 @@ fn junk(random: &mut Random) -> Vec<u8> {
     bytes
 }
 
+/// The random numbers of input `number` of this seed.
+pub fn numbers(seed: u64, number: u64) -> Random {
+    let start = Random::new(seed).next() ^ number.wrapping_mul(0xD134_2543_DE82_EF95);
+    Random::new(start)
+}
+
 /// Input `number` of this seed.
 pub fn input(seed: u64, number: u64) -> Vec<u8> {
-    let start = Random::new(seed).next() ^ number.wrapping_mul(0xD134_2543_DE82_EF95);
-    let mut random = Random::new(start);
+    let mut random = numbers(seed, number);
     match random.below(100) {
         0..=21 => valid(&mut random),
         22..=24 => large(&mut random),
@@ -1001,87 +1009,4 @@ pub fn valid_input(seed: u64, number: u64) -> Vec<u8> {
     valid(&mut Random::new(
         seed ^ number.wrapping_mul(0xD134_2543_DE82_EF95),
     ))
-}
-
-// Counts.
-
-/// The answers that a run has to meet. Those that come from several sections are told apart.
-pub const ANSWERS: [&str; 22] = [
-    "0",
-    "1 header",
-    "1 read header",
-    "1 data",
-    "1 index",
-    "2",
-    "3",
-    "4",
-    "5 header",
-    "5 read header",
-    "6 header",
-    "6 read header",
-    "7 header",
-    "7 read header",
-    "7 data",
-    "8",
-    "9",
-    "10",
-    "11",
-    "12",
-    "13",
-    "too long",
-];
-
-/// Which of `ANSWERS` an input has.
-pub fn answer(input: &[u8]) -> String {
-    if input.len() > sff::LONGEST_INPUT {
-        return "too long".to_string();
-    }
-    let refusal = match sff::test_file(input) {
-        Ok(_) => return "0".to_string(),
-        Err(refusal) => refusal,
-    };
-    let section = match refusal.section {
-        sff::Section::Header => " header",
-        sff::Section::ReadHeader => " read header",
-        sff::Section::Data => " data",
-        sff::Section::Index => " index",
-        sff::Section::End => "",
-    };
-    match refusal.number {
-        1 | 5 | 6 | 7 => format!("{}{}", refusal.number, section),
-        number => number.to_string(),
-    }
-}
-
-/// How often each of `ANSWERS` occurred.
-pub struct Counts {
-    pub counts: [u64; ANSWERS.len()],
-}
-
-impl Counts {
-    pub fn new() -> Counts {
-        Counts {
-            counts: [0; ANSWERS.len()],
-        }
-    }
-
-    pub fn add(&mut self, input: &[u8]) {
-        let answer = answer(input);
-        let index = ANSWERS.iter().position(|known| *known == answer);
-        self.counts[index.expect("an answer outside of the list")] += 1;
-    }
-
-    /// The answers that occurred fewer than this many times.
-    pub fn below(&self, least: u64) -> Vec<&'static str> {
-        let few = (0..ANSWERS.len()).filter(|index| self.counts[*index] < least);
-        few.map(|index| ANSWERS[index]).collect()
-    }
-
-    /// All counts, on one line.
-    pub fn line(&self) -> String {
-        let all = ANSWERS.iter().zip(self.counts);
-        all.map(|(answer, count)| format!("{answer}: {count}"))
-            .collect::<Vec<_>>()
-            .join(", ")
-    }
 }

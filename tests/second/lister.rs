@@ -8,6 +8,7 @@
 //! needs some hundreds of inputs for that). Exit codes of the lister and its standard error are not
 //! looked at: document 01 says nothing of them.
 
+mod counts;
 mod inputs;
 mod samples;
 mod sff;
@@ -67,7 +68,7 @@ fn write_samples(folder: &str) -> Result<(), String> {
 }
 
 fn compare(lister: &str, seed: u64, count: u64) -> Result<(), String> {
-    let mut counts = inputs::Counts::new();
+    let mut counts = counts::Counts::new(true, &["too long"]);
     for number in 0..count {
         let input = inputs::input(seed, number);
         let expected = sff::listing(&input);
@@ -81,7 +82,7 @@ fn compare(lister: &str, seed: u64, count: u64) -> Result<(), String> {
             println!("the second program says {}", shown(&expected));
             return Err(keep(seed, number, &input));
         }
-        counts.add(&input);
+        counts.add(&counts::listed(&input));
     }
     println!("{count} inputs alike; {}", counts.line());
     let missing = counts.below(1);

@@ -1,9 +1,15 @@
 //! The second implementation's own tests: document 01's checked examples on the file and the
-//! listing, each answer with its place, the order of the tests, the reader, the inputs.
+//! listing, each answer with its place, the order of the tests, the reader, the inputs. Those of the
+//! insert, the signal summary and the writers are in `own_calls`.
 
+mod calls;
+mod counts;
 mod inputs;
+mod own_calls;
+mod reading;
 mod samples;
 mod sff;
+mod writing;
 
 use samples::{e_with, samples, E};
 use sff::{file_test, first_last, listing, Reader};
@@ -486,9 +492,9 @@ fn valid_files_are_accepted() {
 
 #[test]
 fn every_answer_occurs_twenty_times() {
-    let mut counts = inputs::Counts::new();
+    let mut counts = counts::Counts::new(true, &["too long"]);
     for number in 0..COUNT {
-        counts.add(&inputs::input(SEED, number));
+        counts.add(&counts::listed(&inputs::input(SEED, number)));
     }
     println!("{}", counts.line());
     assert!(

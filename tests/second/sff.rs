@@ -15,6 +15,8 @@ pub enum Section {
     Data,
     Index,
     End,
+    /// No section: what was given beside the file is refused.
+    Given,
 }
 
 /// "Every answer has a number (0 accepted) and a byte place": here one that is not 0.
@@ -25,7 +27,7 @@ pub struct Refusal {
     pub section: Section,
 }
 
-fn refuse<T>(number: u64, place: usize, section: Section) -> Result<T, Refusal> {
+pub fn refuse<T>(number: u64, place: usize, section: Section) -> Result<T, Refusal> {
     Err(Refusal {
         number,
         place: place as u64,
@@ -43,7 +45,7 @@ fn big_endian(bytes: &[u8]) -> u64 {
 }
 
 /// "Up8 is the next multiple of 8, or the number itself." No caller comes near 2^64.
-fn up8(number: u64) -> u64 {
+pub fn up8(number: u64) -> u64 {
     (number + 7) / 8 * 8
 }
 
@@ -54,6 +56,16 @@ fn first_bad(file: &[u8], from: usize, to: usize, good: impl Fn(u8) -> bool) -> 
 
 fn is_zero(byte: u8) -> bool {
     byte == 0
+}
+
+/// "flow and key characters are A, C, G, T"
+pub fn is_flow_character(byte: u8) -> bool {
+    b"ACGT".contains(&byte)
+}
+
+/// "Name bytes are 33 to 126"
+pub fn is_name_byte(byte: u8) -> bool {
+    (33..=126).contains(&byte)
 }
 
 /// The common header of a file whose header tests all passed.
@@ -69,7 +81,7 @@ pub struct Header<'a> {
 
 impl Header<'_> {
     /// "An index is absent when offset and length are both 0."
-    fn has_index(&self) -> bool {
+    pub fn has_index(&self) -> bool {
         !(self.index_offset == 0 && self.index_length == 0)
     }
 
@@ -115,8 +127,8 @@ fn test_header(file: &[u8]) -> Result<Header<'_>, Refusal> {
     if file.len() < length {
         return refuse(1, 0, Section::Header);
     }
-    // 6: "flow and key characters are A, C, G, T"
-    if let Some(place) = first_bad(file, 31, key_end, |byte| b"ACGT".contains(&byte)) {
+    // 6: a flow or key byte
+    if let Some(place) = first_bad(file, 31, key_end, is_flow_character) {
         return refuse(6, place, Section::Header);
     }
     // 7: "padding not zero"
@@ -143,15 +155,23 @@ fn test_header(file: &[u8]) -> Result<Header<'_>, Refusal> {
 /// A read whose tests all passed.
 #[derive(Clone, Copy, Debug, PartialEq, Eq)]
 pub struct Read<'a> {
+    pub start: usize,
     pub name: &'a [u8],
     /// "quality left, quality right, adapter left, adapter right"
     pub clips: [u64; 4],
+    /// "F flow values of 2 bytes"
+    values: &'a [u8],
     pub bases: &'a [u8],
     /// The boundary behind the read.
     pub end: usize,
 }
 
 impl<'a> Read<'a> {
+    /// The stored flow values.
+    pub fn values(&self) -> Vec<u64> {
+        self.values.chunks(2).map(big_endian).collect()
+    }
+
     /// First and last base of the insert, both counted from 1.
     pub fn first_last(&self) -> (u64, u64) {
         first_last(self.bases.len() as u64, self.clips)
@@ -176,6 +196,28 @@ pub fn first_last(bases: u64, clips: [u64; 4]) -> (u64, u64) {
     (first, last)
 }
 
+/// "The running sum after each base is its flow position; every flow position lies in 1 to F." The
+/// flow positions, or the number of the first base that breaks this, counted from 0.
+pub fn flow_walk(increments: &[u8], flow_count: usize) -> Result<Vec<usize>, usize> {
+    let mut flow_positions = Vec::new();
+    let mut sum = 0;
+    for (base, increment) in increments.iter().enumerate() {
+        sum += usize::from(*increment);
+        if sum < 1 || sum > flow_count {
+            return Err(base);
+        }
+        flow_positions.push(sum);
+    }
+    Ok(flow_positions)
+}
+
+/// "Base i is the flow character at its flow, or the letter N." The number of the first base that is
+/// neither, counted from 0.
+pub fn wrong_base(bases: &[u8], flow_positions: &[usize], flows: &[u8]) -> Option<usize> {
+    let mut called = bases.iter().zip(flow_positions);
+    called.position(|(base, flow_position)| *base != flows[flow_position - 1] && *base != b'N')
+}
+
 /// "Read: 1 (under 16 bytes), 5, 1, 6, 7, 9, 1 (data), 10, 11, 7."
 /// The start is not beyond the file's end.
 fn test_read<'a>(file: &'a [u8], header: &Header, start: usize) -> Result<Read<'a>, Refusal> {
@@ -194,13 +236,11 @@ fn test_read<'a>(file: &'a [u8], header: &Header, start: usize) -> Result<Read<'
     if left < length {
         return refuse(1, start, Section::ReadHeader);
     }
-    // 6: "Name bytes are 33 to 126; a name may be empty."
+    // 6: a name byte; "a name may be empty"
     let name_start = start + 16;
     let name_end = name_start + name_length;
     let header_end = start + length;
-    if let Some(place) = first_bad(file, name_start, name_end, |byte| {
-        (33..=126).contains(&byte)
-    }) {
+    if let Some(place) = first_bad(file, name_start, name_end, is_name_byte) {
         return refuse(6, place, Section::ReadHeader);
     }
     // 7: "zero padding to up8(16+L)"
@@ -231,32 +271,26 @@ fn test_read<'a>(file: &'a [u8], header: &Header, start: usize) -> Result<Read<'
     let contents_end = qualities_start + base_count;
     let end = header_end + up8(contents) as usize;
 
-    // 10: "The running sum after each base is its flow position; every flow position lies in 1 to F."
-    let mut flow_positions = Vec::new();
-    let mut sum = 0;
-    for place in increments_start..bases_start {
-        sum += usize::from(file[place]);
-        if sum < 1 || sum > flow_count {
-            return refuse(10, place, Section::Data);
-        }
-        flow_positions.push(sum);
-    }
-    // 11: "Base i is the flow character at its flow, or the letter N."
-    for (base, flow_position) in flow_positions.iter().enumerate() {
-        let place = bases_start + base;
-        let flow_character = header.flows[flow_position - 1];
-        if file[place] != flow_character && file[place] != b'N' {
-            return refuse(11, place, Section::Data);
-        }
+    // 10: the walk
+    let flow_positions = match flow_walk(&file[increments_start..bases_start], flow_count) {
+        Ok(flow_positions) => flow_positions,
+        Err(base) => return refuse(10, increments_start + base, Section::Data),
+    };
+    // 11: the bases
+    let bases = &file[bases_start..qualities_start];
+    if let Some(base) = wrong_base(bases, &flow_positions, header.flows) {
+        return refuse(11, bases_start + base, Section::Data);
     }
     // 7: "zero padding to up8(2F+3N)"; "Qualities are any byte."
     if let Some(place) = first_bad(file, contents_end, end, is_zero) {
         return refuse(7, place, Section::Data);
     }
     Ok(Read {
+        start,
         name: &file[name_start..name_end],
         clips,
-        bases: &file[bases_start..qualities_start],
+        values: &file[header_end..increments_start],
+        bases,
         end,
     })
 }

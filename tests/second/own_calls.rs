@@ -1,0 +1,467 @@
+//! The second implementation's own tests of the insert, the signal summary, a new file and an append,
+//! and of the inputs for these calls.
+
+use crate::calls::{append_call, build_call, new_call, position};
+use crate::counts::{self, Counts};
+use crate::inputs::{self, lay_out, Model, Read};
+use crate::reading::{insert, signal};
+use crate::samples::{e_with, samples, E};
+use crate::sff::{file_test, test_file, Refusal};
+use crate::writing::{append, new_file, NewRead, Written};
+
+const SEED: u64 = 454;
+
+fn numbers(refusal: Option<Refusal>) -> (u64, u64) {
+    refusal.map_or((0, 0), |refusal| (refusal.number, refusal.place))
+}
+
+fn sample(name: &str) -> Vec<u8> {
+    let all = samples();
+    all.into_iter()
+        .find(|(known, _)| *known == name)
+        .expect("a sample of that name")
+        .1
+}
+
+// The insert and the signal summary.
+
+#[test]
+fn inserts_by_position() {
+    let answer = insert(&E, 0);
+    assert_eq!(numbers(answer.refusal), (0, 0));
+    assert_eq!(
+        (answer.first, answer.last, answer.bases),
+        (2, 3, &b"CC"[..])
+    );
+    let right_clips = sample("right-clips");
+    assert_eq!(insert(&right_clips, 3).bases, b"AC");
+    assert_eq!(insert(&sample("index-between"), 1).bases, b"AAC");
+
+    // "If first > last the insert is empty.", with first and last as computed.
+    let empty_parts = sample("empty-parts");
+    let answer = insert(&empty_parts, 1);
+    assert_eq!(numbers(answer.refusal), (0, 0));
+    assert_eq!((answer.first, answer.last, answer.bases), (3, 2, &b""[..]));
+    let answer = insert(&empty_parts, 2);
+    assert_eq!((answer.first, answer.last, answer.bases), (1, 0, &b""[..]));
+}
+
+#[test]
+fn inserts_refused() {
+    let cases = [
+        (E.to_vec(), 1, (21, 0)),
+        (E.to_vec(), u64::MAX, (21, 0)),
+        (E.to_vec(), 1 << 32, (21, 0)),
+        (sample("bare"), 0, (21, 0)),
+        (e_with(49, 4), 0, (9, 48)),
+        (e_with(49, 4), 1, (9, 48)),
+        (E[..87].to_vec(), 0, (1, 64)),
+    ];
+    for (file, position, expected) in cases {
+        let answer = insert(&file, position);
+        assert_eq!(numbers(answer.refusal), expected);
+        assert_eq!((answer.first, answer.last, answer.bases), (1, 0, &b""[..]));
+    }
+}
+
+#[test]
+fn signals_by_position() {
+    // Document 01: "Mean signal 0.75 (run)."
+    let answer = signal(&E, 0);
+    assert_eq!(numbers(answer.refusal), (0, 0));
+    assert_eq!(
+        (answer.strongest, answer.weakest, answer.mean),
+        (2.0, 0.0, 0.75)
+    );
+    let answer = signal(&sample("index-last"), 1);
+    assert_eq!((answer.strongest, answer.weakest), (655.35, 0.0));
+    assert_eq!(answer.mean, 65_835.0 / 400.0);
+}
+
+#[test]
+fn signals_refused() {
+    let no_flows = lay_out(&Model {
+        flows: vec![],
+        key: vec![],
+        reads: vec![no_bases()],
+        index: None,
+    })
+    .bytes;
+    let cases = [
+        (no_flows.clone(), 0, (32, 0)),
+        (no_flows.clone(), 1, (21, 0)),
+        (no_flows[..47].to_vec(), 0, (1, 32)),
+        (sample("bare"), 0, (21, 0)),
+        (E.to_vec(), 1, (21, 0)),
+        (e_with(81, 1), 0, (7, 81)),
+    ];
+    for (file, position, expected) in cases {
+        let answer = signal(&file, position);
+        assert_eq!(numbers(answer.refusal), expected);
+        let floats = [answer.strongest, answer.weakest, answer.mean];
+        assert_eq!(floats.map(f64::to_bits), [0; 3]);
+    }
+}
+
+fn no_bases() -> Read {
+    Read {
+        name: vec![],
+        clips: [0; 4],
+        values: vec![],
+        increments: vec![],
+        bases: vec![],
+        qualities: vec![],
+    }
+}
+
+// New files.
+
+/// What a new file answers in a buffer of this length, which must stay as it was if it is refused.
+fn new_in(length: usize, flows: &[u8], key: &[u8]) -> (u64, u64, u64) {
+    let mut buffer = vec![170; length];
+    let written = new_file(&mut buffer, flows, key);
+    let (number, place) = numbers(written.refusal);
+    let written_to = if number == 0 {
+        written.length as usize
+    } else {
+        0
+    };
+    assert!(buffer[written_to..].iter().all(|byte| *byte == 170));
+    (number, place, written.length)
+}
+
+#[test]
+fn new_files() {
+    let mut buffer = [170; 41];
+    let written = new_file(&mut buffer, b"TACG", b"T");
+    assert_eq!(
+        written,
+        Written {
+            refusal: None,
+            length: 40
+        }
+    );
+    assert_eq!(buffer[..20], E[..20]);
+    assert_eq!(buffer[20..24], [0; 4]);
+    assert_eq!(buffer[24..40], E[24..40]);
+    assert_eq!(buffer[40], 170);
+
+    assert_eq!(new_in(32, b"", b""), (0, 0, 32));
+    assert_eq!(new_in(31, b"", b""), (26, 0, 0));
+    assert_eq!(new_in(0, b"", b""), (26, 0, 0));
+    assert_eq!(new_in(39, b"TACG", b"T"), (26, 0, 0));
+    assert_eq!(new_in(39, b"TACG", b"t"), (6, 0, 0));
+    assert_eq!(new_in(99, b"TANG", b""), (6, 0, 0));
+    let long = vec![b'A'; 65_498];
+    assert_eq!(
+        new_in(65_528, &long[..65_000], &long[..497]),
+        (0, 0, 65_528)
+    );
+    assert_eq!(new_in(65_527, &long[..65_497], b""), (26, 0, 0));
+    assert_eq!(new_in(70_000, &long[..65_000], &long[..498]), (5, 0, 0));
+    assert_eq!(new_in(0, &long[..65_497], b"n"), (5, 0, 0));
+}
+
+// Appends.
+
+/// E's read.
+fn e_read() -> NewRead<'static> {
+    NewRead {
+        name: b"r1",
+        clips: [2, 0, 0, 0],
+        values: &[100, 0, 200, 0],
+        increments: &[1, 2, 0],
+        bases: b"TCC",
+        qualities: &[40, 40, 40],
+    }
+}
+
+/// What an append answers; the buffer must stay as it was if it is refused.
+fn append_to(buffer: &[u8], file_length: u64, read: &NewRead) -> (u64, u64, u64) {
+    let mut after = buffer.to_vec();
+    let written = append(&mut after, file_length, read);
+    let (number, place) = numbers(written.refusal);
+    if number != 0 {
+        assert_eq!(after, buffer);
+    }
+    (number, place, written.length)
+}
+
+#[test]
+fn appending_to_a_new_file_gives_e() {
+    let mut buffer = [170; 100];
+    new_file(&mut buffer, b"TACG", b"T");
+    let written = append(&mut buffer, 40, &e_read());
+    assert_eq!(
+        written,
+        Written {
+            refusal: None,
+            length: 88
+        }
+    );
+    assert_eq!(buffer[..88], E);
+    assert_eq!(buffer[88..], [170; 12]);
+    assert_eq!(append_to(&buffer[..88], 88, &e_read()), (26, 0, 88));
+    assert_eq!(append_to(&buffer[..88], 89, &e_read()), (14, 0, 89));
+    assert_eq!(append_to(&buffer[..88], 80, &e_read()), (1, 64, 80));
+    assert_eq!(append_to(&buffer, 90, &e_read()), (12, 88, 90));
+}
+
+#[test]
+fn each_refusal_of_an_append() {
+    let mut buffer = E.to_vec();
+    buffer.extend([0; 48]);
+    let long = vec![b'x'; 65_513];
+    let e = e_read();
+    let cases = [
+        (
+            NewRead {
+                values: &[0; 3],
+                ..e
+            },
+            30,
+        ),
+        (
+            NewRead {
+                values: &[0; 5],
+                ..e
+            },
+            30,
+        ),
+        (
+            NewRead {
+                increments: &[1, 2],
+                ..e
+            },
+            30,
+        ),
+        (
+            NewRead {
+                bases: b"TCCC",
+                ..e
+            },
+            30,
+        ),
+        (
+            NewRead {
+                qualities: &[],
+                ..e
+            },
+            30,
+        ),
+        (
+            NewRead {
+                qualities: &[0; 4],
+                increments: &[1, 2, 0, 0],
+                ..e
+            },
+            30,
+        ),
+        (NewRead { name: &long, ..e }, 5),
+        (
+            NewRead {
+                name: &long[1..],
+                ..e
+            },
+            26,
+        ),
+        (NewRead { name: b"r 1", ..e }, 6),
+        (
+            NewRead {
+                name: &[33, 126],
+                ..e
+            },
+            0,
+        ),
+        (NewRead { name: &[127], ..e }, 6),
+        (
+            NewRead {
+                clips: [0, 0, 0, 4],
+                ..e
+            },
+            9,
+        ),
+        (NewRead { clips: [3; 4], ..e }, 0),
+        (
+            NewRead {
+                increments: &[0, 1, 2],
+                ..e
+            },
+            10,
+        ),
+        (
+            NewRead {
+                increments: &[1, 2, 2],
+                ..e
+            },
+            10,
+        ),
+        (NewRead { bases: b"TCG", ..e }, 11),
+        (NewRead { bases: b"NNN", ..e }, 0),
+        (
+            NewRead {
+                name: b"123456789",
+                ..e
+            },
+            26,
+        ),
+        (NewRead { name: b"", ..e }, 0),
+        (
+            NewRead {
+                increments: &[],
+                bases: b"",
+                qualities: &[],
+                clips: [0; 4],
+                ..e
+            },
+            0,
+        ),
+    ];
+    for (number, (read, expected)) in cases.iter().enumerate() {
+        let (answered, place, length) = append_to(&buffer, 88, read);
+        assert_eq!((answered, place), (*expected, 0), "case {number}");
+        assert_eq!(length == 88, *expected != 0, "case {number}");
+    }
+}
+
+/// "14 ..; the file's own refusal; 25 ..; 31 ..; 30 ..; 5 ..; 6; 9; 10; 11; 26": a read with all of it
+/// wrong, mended from the front.
+#[test]
+fn the_order_of_an_append() {
+    let mut file = E.to_vec();
+    inputs::set(&mut file, 8, 8, 88);
+    inputs::set(&mut file, 16, 4, 8);
+    file.extend([0; 8]);
+    let mut refused = file.clone();
+    refused[31] = 0;
+    let spaces = vec![b' '; 65_513];
+    let name = vec![b'!'; 65_512];
+    let mut read = NewRead {
+        name: &spaces,
+        clips: [0, 4, 0, 0],
+        values: &[],
+        increments: &[0, 0, 0],
+        bases: b"ttt",
+        qualities: &[1, 2, 3],
+    };
+    assert_eq!(append_to(&refused, 97, &read), (14, 0, 97));
+    assert_eq!(append_to(&refused, 96, &read), (6, 31, 96));
+    assert_eq!(append_to(&file, 96, &read), (25, 0, 96));
+    assert_eq!(append_to(&E, 88, &read), (30, 0, 88));
+    read.values = &[0; 4];
+    assert_eq!(append_to(&E, 88, &read), (5, 0, 88));
+    read.name = &spaces[1..];
+    assert_eq!(append_to(&E, 88, &read), (6, 0, 88));
+    read.name = &name;
+    assert_eq!(append_to(&E, 88, &read), (9, 0, 88));
+    read.clips = [0; 4];
+    assert_eq!(append_to(&E, 88, &read), (10, 0, 88));
+    read.increments = &[1, 0, 0];
+    assert_eq!(append_to(&E, 88, &read), (11, 0, 88));
+    read.bases = b"TTT";
+    assert_eq!(append_to(&E, 88, &read), (26, 0, 88));
+}
+
+/// "a new file and an append for each read leave these bytes in any buffer that holds them"
+#[test]
+fn built_files_are_the_layout() {
+    for number in 0..1_000 {
+        let mut call = build_call(SEED, number);
+        let rest = call.buffer[call.file.len()..].to_vec();
+        let mut written = new_file(&mut call.buffer, &call.model.flows, &call.model.key);
+        for read in &call.model.reads {
+            assert_eq!(written.refusal, None);
+            written = append(&mut call.buffer, written.length, &read.lent());
+        }
+        let length = call.file.len();
+        assert_eq!(
+            written,
+            Written {
+                refusal: None,
+                length: length as u64
+            }
+        );
+        assert_eq!(call.buffer[..length], call.file);
+        assert_eq!(call.buffer[length..], rest);
+    }
+}
+
+#[test]
+fn an_appended_file_is_accepted_with_one_read_more() {
+    for number in 0..2_000 {
+        let mut call = append_call(SEED, number);
+        let written = append(&mut call.buffer, call.file_length, &call.read.lent());
+        if written.refusal.is_none() {
+            let file = &call.buffer[..written.length as usize];
+            let contents = test_file(file).ok().expect("accepted");
+            let last = contents.reads.last().expect("a read");
+            assert_eq!(last.start as u64, call.file_length);
+            assert_eq!(
+                (last.name, last.bases),
+                (&call.read.name[..], &call.read.bases[..])
+            );
+            assert_eq!(last.clips, call.read.clips.map(u64::from));
+            let values: Vec<u64> = call
+                .read
+                .values
+                .iter()
+                .map(|value| u64::from(*value))
+                .collect();
+            assert_eq!(last.values(), values);
+        }
+    }
+}
+
+// The inputs.
+
+#[test]
+fn every_answer_of_a_writer_occurs_ten_times() {
+    let mut of_new = Counts::new(false, &["0", "5 given", "6 given", "26"]);
+    let mut of_append = Counts::new(
+        true,
+        &[
+            "14", "25", "30", "5 given", "6 given", "9 given", "10 given", "11 given", "26",
+        ],
+    );
+    // Just enough room, and one byte less than that.
+    let mut edges = [0; 4];
+    for number in 0..20_000 {
+        let mut call = new_call(SEED, number);
+        let (enough, length) = (call.enough(), call.buffer.len());
+        let name = counts::name(new_file(&mut call.buffer, &call.flows, &call.key).refusal);
+        edges[0] += u64::from(name == "0" && length == enough);
+        edges[1] += u64::from(name == "26" && length + 1 == enough);
+        of_new.add(&name);
+
+        let mut call = append_call(SEED, number);
+        let (enough, length) = (call.enough(), call.buffer.len() as u64);
+        let read = call.read.lent();
+        let name = counts::name(append(&mut call.buffer, call.file_length, &read).refusal);
+        edges[2] += u64::from(name == "0" && length == enough);
+        edges[3] += u64::from(name == "26" && length + 1 == enough);
+        of_append.add(&name);
+    }
+    println!(
+        "new: {}\nappend: {}\n{edges:?}",
+        of_new.line(),
+        of_append.line()
+    );
+    assert!(of_new.below(10).is_empty(), "{:?}", of_new.below(10));
+    assert!(of_append.below(10).is_empty(), "{:?}", of_append.below(10));
+    assert!(edges.iter().all(|count| *count >= 10), "{edges:?}");
+}
+
+#[test]
+fn positions_lie_on_both_sides_of_the_count() {
+    let mut random = inputs::Random::new(SEED);
+    let (mut below, mut at, mut above) = (0, 0, 0);
+    for _ in 0..100 {
+        match position(&mut random, &sample("many")) {
+            0..=59 => below += 1,
+            60 => at += 1,
+            _ => above += 1,
+        }
+    }
+    assert!(below > 0 && at > 0 && above > 0);
+    assert_eq!(file_test(&sample("many")), (0, 0));
+}

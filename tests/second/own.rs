@@ -12,7 +12,7 @@ mod sff;
 mod writing;
 
 use samples::{e_with, samples, E};
-use sff::{file_test, first_last, listing, Reader};
+use sff::{file_test, first_last, listing, numbers, Reader};
 
 /// The seed of the comparison that the script `run` makes.
 const SEED: u64 = 454;
@@ -344,11 +344,11 @@ fn stepping_from_a_fresh_state() {
         assert_eq!(last.state, state);
         match sff::test_file(&file) {
             Ok(contents) => {
-                assert_eq!((last.number, last.place), (33, file.len() as u64));
+                assert_eq!(numbers(last.refusal), (33, file.len() as u64));
                 assert_eq!(reads, contents.reads);
             }
             Err(refusal) => {
-                assert_eq!((last.number, last.place), (refusal.number, refusal.place));
+                assert_eq!(last.refusal, Some(refusal));
             }
         }
     }
@@ -367,7 +367,7 @@ fn refusal(file: &[u8], state: Reader) -> (u64, u64) {
     let step = state.step(file);
     assert_eq!(step.state, state);
     assert!(step.read.is_none());
-    (step.number, step.place)
+    numbers(step.refusal)
 }
 
 #[test]
@@ -444,10 +444,10 @@ fn forged_states_of_all_inputs() {
             );
             let step = before.step(&file);
             if step.read.is_none() {
-                assert!(step.number != 0);
+                assert!(numbers(step.refusal).0 != 0);
                 assert_eq!(step.state, before);
             } else {
-                assert_eq!((step.number, step.place), (0, 0));
+                assert_eq!(step.refusal, None);
                 assert_eq!(step.state.passed_reads, before.passed_reads + 1);
                 assert!(step.state.place >= before.place + 16 && step.state.place <= length);
                 assert!(step.state.passed_index || !before.passed_index);

@@ -6,14 +6,10 @@ use crate::counts::{self, Counts};
 use crate::inputs::{self, lay_out, Model, Read};
 use crate::reading::{insert, signal};
 use crate::samples::{e_with, samples, E};
-use crate::sff::{file_test, test_file, Refusal};
+use crate::sff::{file_test, numbers, test_file};
 use crate::writing::{append, new_file, NewRead, Written};
 
 const SEED: u64 = 454;
-
-fn numbers(refusal: Option<Refusal>) -> (u64, u64) {
-    refusal.map_or((0, 0), |refusal| (refusal.number, refusal.place))
-}
 
 fn sample(name: &str) -> Vec<u8> {
     let all = samples();

@@ -27,6 +27,11 @@ pub struct Refusal {
     pub section: Section,
 }
 
+/// Number and place, both 0 where nothing is refused.
+pub fn numbers(refusal: Option<Refusal>) -> (u64, u64) {
+    refusal.map_or((0, 0), |refusal| (refusal.number, refusal.place))
+}
+
 pub fn refuse<T>(number: u64, place: usize, section: Section) -> Result<T, Refusal> {
     Err(Refusal {
         number,
@@ -340,12 +345,9 @@ pub fn test_file(file: &[u8]) -> Result<Contents<'_>, Refusal> {
     Ok(Contents { header, reads })
 }
 
-/// The whole-file test: number and place, (0, 0) if the file is accepted.
+/// Number and place of the whole-file test.
 pub fn file_test(file: &[u8]) -> (u64, u64) {
-    match test_file(file) {
-        Ok(_) => (0, 0),
-        Err(refusal) => (refusal.number, refusal.place),
-    }
+    numbers(test_file(file).err())
 }
 
 /// "A reader's state holds a byte place, the reads passed and whether the index is passed."
@@ -356,11 +358,10 @@ pub struct Reader {
     pub passed_index: bool,
 }
 
-/// What a step answers: number and place (0 and 0 with a read), and the state that comes back.
+/// What a step answers: a refusal or a read, and the state that comes back.
 #[derive(Clone, Copy, Debug, PartialEq, Eq)]
 pub struct Step<'a> {
-    pub number: u64,
-    pub place: u64,
+    pub refusal: Option<Refusal>,
     pub read: Option<Read<'a>>,
     pub state: Reader,
 }
@@ -385,14 +386,12 @@ impl Reader {
     pub fn step(self, file: &[u8]) -> Step<'_> {
         match self.next_read(file) {
             Ok((read, moved)) => Step {
-                number: 0,
-                place: 0,
+                refusal: None,
                 read: Some(read),
                 state: moved,
             },
             Err(refusal) => Step {
-                number: refusal.number,
-                place: refusal.place,
+                refusal: Some(refusal),
                 read: None,
                 state: self,
             },

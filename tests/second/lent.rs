@@ -1,0 +1,47 @@
+//! Memory that is lent to a call.
+
+/// A list that a call is given, with cells around it that the call must leave alone.
+pub struct Lent<T> {
+    cells: Vec<T>,
+    before: Vec<T>,
+    margin: usize,
+}
+
+impl<T: Copy + PartialEq> Lent<T> {
+    /// The margin has `margin` cells on each side; an odd one sets bytes off their alignment.
+    pub fn new(contents: &[T], around: T, margin: usize) -> Lent<T> {
+        let mut cells = vec![around; margin];
+        cells.extend(contents);
+        cells.extend(vec![around; margin]);
+        Lent {
+            before: cells.clone(),
+            cells,
+            margin,
+        }
+    }
+
+    pub fn len(&self) -> usize {
+        self.cells.len() - 2 * self.margin
+    }
+
+    pub fn pointer(&self) -> *const T {
+        self.cells[self.margin..].as_ptr()
+    }
+
+    pub fn pointer_to_write(&mut self) -> *mut T {
+        self.cells[self.margin..].as_mut_ptr()
+    }
+
+    /// What stands there now, or None if a cell of the margin changed.
+    pub fn now(&self) -> Option<&[T]> {
+        let end = self.margin + self.len();
+        let kept = self.cells[..self.margin] == self.before[..self.margin]
+            && self.cells[end..] == self.before[end..];
+        kept.then_some(&self.cells[self.margin..end])
+    }
+
+    /// Whether every cell is as it was lent.
+    pub fn unchanged(&self) -> bool {
+        self.cells == self.before
+    }
+}

@@ -1,0 +1,448 @@
+//! Compares the library with the second implementation, through the C exports of `harness`.
+//!
+//!     second-library SEED COUNT [FIRST]     cases FIRST (0) and on
+//!
+//! A case is a file for the calls that read, a new file, an append, and a file built read by read.
+//! The comparison ends with 1 at the first difference, and also if an answer never occurred (a run
+//! needs some thousands of cases for that).
+
+mod calls;
+mod counts;
+mod exports;
+mod inputs;
+mod lent;
+mod reading;
+mod sff;
+mod writing;
+
+use counts::Counts;
+use exports::{Inserted, LentRead, Made, State, Stepped, Summed};
+use inputs::Random;
+use lent::Lent;
+use sff::{numbers, Reader};
+use std::fmt::Debug;
+use std::process::exit;
+use writing::{NewRead, Written};
+
+fn main() {
+    let arguments: Vec<String> = std::env::args().skip(1).collect();
+    let numbers: Option<Vec<u64>> = arguments.iter().map(|word| word.parse().ok()).collect();
+    let done = match numbers.as_deref() {
+        Some([seed, count]) => compare(*seed, *count, 0),
+        Some([seed, count, first]) => compare(*seed, *count, *first),
+        _ => Err("usage: second-library SEED COUNT [FIRST]".to_string()),
+    };
+    if let Err(message) = done {
+        eprintln!("{message}");
+        exit(1);
+    }
+}
+
+fn compare(seed: u64, count: u64, first: u64) -> Result<(), String> {
+    let mut comparison = Comparison::new();
+    for number in first..first + count {
+        comparison
+            .case(seed, number)
+            .map_err(|difference| difference.told(seed, number))?;
+    }
+    let mut missing = Vec::new();
+    for (call, counts) in comparison.all() {
+        println!("{call}: {} alike; {}", counts.all(), counts.line());
+        let never = counts.below(1);
+        missing.extend(never.iter().map(|answer| format!("{call} {answer}")));
+    }
+    if !missing.is_empty() {
+        return Err(format!("never occurred: {}", missing.join(", ")));
+    }
+    Ok(())
+}
+
+/// What differs in a call, and the bytes that it was given.
+struct Difference {
+    message: String,
+    given: Vec<(&'static str, Vec<u8>)>,
+}
+
+impl Difference {
+    /// Writes what was given to the current folder and says where.
+    fn told(&self, seed: u64, number: u64) -> String {
+        let mut text = format!("case {number} of seed {seed}: {}", self.message);
+        for (part, bytes) in &self.given {
+            let name = format!("difference-{seed}-{number}.{part}");
+            match std::fs::write(&name, bytes) {
+                Ok(()) => text += &format!("\n{part}: {} bytes, in {name}", bytes.len()),
+                Err(error) => text += &format!("\n{part} could not be written: {error}"),
+            }
+        }
+        text
+    }
+}
+
+type Outcome = Result<(), Difference>;
+
+/// The library's answer and the second program's must be the same.
+fn same<T: Debug + PartialEq>(
+    call: &str,
+    library: T,
+    second: T,
+    given: &[(&'static str, &[u8])],
+) -> Outcome {
+    if library == second {
+        return Ok(());
+    }
+    let message = format!("{call}\nthe library {library:?}\nthe second program {second:?}");
+    differ(message, given)
+}
+
+/// What was lent must hold this now.
+fn holds(call: &str, lent: &Lent<u8>, second: &[u8], given: &[(&'static str, &[u8])]) -> Outcome {
+    let Some(library) = lent.now() else {
+        return differ(format!("{call}: bytes around the lent ones changed"), given);
+    };
+    match (0..second.len()).find(|place| library[*place] != second[*place]) {
+        None => Ok(()),
+        Some(place) => {
+            let (library, second) = (library[place], second[place]);
+            let bytes = format!("the library leaves {library} and the second program {second}");
+            differ(format!("{call}: at {place} {bytes}"), given)
+        }
+    }
+}
+
+fn unchanged(call: &str, is: bool, given: &[(&'static str, &[u8])]) -> Outcome {
+    if is {
+        return Ok(());
+    }
+    differ(format!("{call}: what it should only read changed"), given)
+}
+
+fn differ(message: String, given: &[(&'static str, &[u8])]) -> Outcome {
+    let given = given.iter().map(|(part, bytes)| (*part, bytes.to_vec()));
+    Err(Difference {
+        message,
+        given: given.collect(),
+    })
+}
+
+fn state(reader: Reader) -> State {
+    [
+        reader.place,
+        reader.passed_reads,
+        u64::from(reader.passed_index),
+    ]
+}
+
+fn made(written: Written) -> Made {
+    let (number, place) = numbers(written.refusal);
+    Made {
+        number,
+        place,
+        length: written.length,
+    }
+}
+
+/// Four clips in one number, the first highest.
+fn packed(clips: [u64; 4]) -> u64 {
+    clips.iter().fold(0, |number, clip| number << 16 | clip)
+}
+
+/// A case's random choices, apart from those of its inputs: margins of lent memory, states, rooms.
+struct Choices {
+    random: Random,
+}
+
+impl Choices {
+    fn lend<T: Copy + PartialEq>(&mut self, contents: &[T], around: T) -> Lent<T> {
+        Lent::new(contents, around, self.random.between(8, 24))
+    }
+
+    fn lend_read(&mut self, read: &NewRead) -> LentRead {
+        LentRead {
+            name: self.lend(read.name, b'n'),
+            clips: packed(read.clips.map(u64::from)),
+            values: self.lend(read.values, 1),
+            increments: self.lend(read.increments, 0),
+            bases: self.lend(read.bases, b'N'),
+            qualities: self.lend(read.qualities, 1),
+        }
+    }
+}
+
+/// How often each answer of each call occurred. 31 has no place here: no file of a size to test has
+/// 4,294,967,295 reads.
+struct Comparison {
+    test: Counts,
+    step: Counts,
+    insert: Counts,
+    signal: Counts,
+    new: Counts,
+    append: Counts,
+}
+
+impl Comparison {
+    fn new() -> Comparison {
+        let of_append = [
+            "14", "25", "30", "5 given", "6 given", "9 given", "10 given", "11 given", "26",
+        ];
+        Comparison {
+            test: Counts::new(true, &[]),
+            // 1 alone: the state's place is beyond the file.
+            step: Counts::new(true, &["1", "33"]),
+            insert: Counts::new(true, &["0 empty", "21"]),
+            signal: Counts::new(true, &["21", "32"]),
+            new: Counts::new(false, &["0", "5 given", "6 given", "26"]),
+            append: Counts::new(true, &of_append),
+        }
+    }
+
+    fn all(&self) -> [(&'static str, &Counts); 6] {
+        [
+            ("test", &self.test),
+            ("step", &self.step),
+            ("insert", &self.insert),
+            ("signal", &self.signal),
+            ("new", &self.new),
+            ("append", &self.append),
+        ]
+    }
+
+    fn case(&mut self, seed: u64, number: u64) -> Outcome {
+        let mut choices = Choices {
+            random: inputs::numbers(seed ^ 1, number),
+        };
+        let file = calls::file(seed, number);
+        let lent = choices.lend(&file, 1);
+        self.test(&file, &lent)?;
+        self.steps(&file, &lent, &mut choices)?;
+        for _ in 0..3 {
+            let position = calls::position(&mut choices.random, &file);
+            self.insert(&file, &lent, position, &mut choices)?;
+            self.signal(&file, &lent, position)?;
+        }
+        unchanged("a call that reads", lent.unchanged(), &[("file", &file)])?;
+
+        let call = calls::new_call(seed, number);
+        let (mut second, mut buffer) = (call.buffer.clone(), choices.lend(&call.buffer, 9));
+        self.new_file(
+            &mut second,
+            &mut buffer,
+            &call.flows,
+            &call.key,
+            &mut choices,
+        )?;
+
+        let call = calls::append_call(seed, number);
+        let (mut second, mut buffer) = (call.buffer.clone(), choices.lend(&call.buffer, 9));
+        let read = call.read.lent();
+        self.append(
+            &mut second,
+            &mut buffer,
+            call.file_length,
+            &read,
+            &mut choices,
+        )?;
+        self.build(&calls::build_call(seed, number), &mut choices)
+    }
+
+    fn test(&mut self, file: &[u8], lent: &Lent<u8>) -> Outcome {
+        let refusal = sff::test_file(file).err();
+        same(
+            "test",
+            exports::test(lent),
+            numbers(refusal),
+            &[("file", file)],
+        )?;
+        self.test.add(&counts::name(refusal));
+        Ok(())
+    }
+
+    /// From a fresh state to the end, and from some forged ones.
+    fn steps(&mut self, file: &[u8], lent: &Lent<u8>, choices: &mut Choices) -> Outcome {
+        let mut reader = Reader::fresh(file);
+        same(
+            "fresh",
+            exports::fresh(lent),
+            (0, state(reader)),
+            &[("file", file)],
+        )?;
+        let mut met = vec![reader];
+        while let Some(next) = self.step(file, lent, reader)? {
+            reader = next;
+            met.push(reader);
+        }
+        for _ in 0..6 {
+            let forged = calls::state(&mut choices.random, file, &met);
+            self.step(file, lent, forged)?;
+        }
+        Ok(())
+    }
+
+    /// One step; the next state if it gives a read.
+    fn step(
+        &mut self,
+        file: &[u8],
+        lent: &Lent<u8>,
+        reader: Reader,
+    ) -> Result<Option<Reader>, Difference> {
+        let step = reader.step(file);
+        let (number, place) = numbers(step.refusal);
+        let read = step.read;
+        let second = Stepped {
+            number,
+            place,
+            state: state(step.state),
+            read_start: read.map_or(0, |read| read.start as u64),
+            name_length: read.map_or(0, |read| read.name.len() as u64),
+            bases: read.map_or(0, |read| read.bases.len() as u64),
+            clips: read.map_or(0, |read| packed(read.clips)),
+        };
+        let call = format!("step from {:?}", state(reader));
+        let library = exports::step(lent, state(reader));
+        same(&call, library, second, &[("file", file)])?;
+        self.step.add(&counts::name(step.refusal));
+        Ok(read.map(|_| step.state))
+    }
+
+    fn insert(
+        &mut self,
+        file: &[u8],
+        lent: &Lent<u8>,
+        position: u64,
+        choices: &mut Choices,
+    ) -> Outcome {
+        let insert = reading::insert(file, position);
+        let length = insert.bases.len();
+        let room = choices
+            .random
+            .pick(&[0, length, length, length + 1, length + 40]);
+        let room = if choices.random.one_in(4) {
+            length.saturating_sub(1)
+        } else {
+            room
+        };
+        let before = choices.random.bytes(room);
+        // Where the insert does not fit, nothing is copied.
+        let mut after = before.clone();
+        if length <= room {
+            after[..length].copy_from_slice(insert.bases);
+        }
+
+        let mut out = choices.lend(&before, 9);
+        let (number, place) = numbers(insert.refusal);
+        let second = Inserted {
+            number,
+            place,
+            first: insert.first,
+            last: insert.last,
+            made: length as u64,
+        };
+        let call = format!("insert of {position}, room {room}");
+        let given = [("file", file), ("out", &before[..])];
+        same(
+            &call,
+            exports::insert(lent, position, &mut out),
+            second,
+            &given,
+        )?;
+        holds(&call, &out, &after, &given)?;
+        let is_empty = insert.refusal.is_none() && length == 0;
+        let name = if is_empty {
+            "0 empty".to_string()
+        } else {
+            counts::name(insert.refusal)
+        };
+        self.insert.add(&name);
+        Ok(())
+    }
+
+    fn signal(&mut self, file: &[u8], lent: &Lent<u8>, position: u64) -> Outcome {
+        let signal = reading::signal(file, position);
+        let (number, place) = numbers(signal.refusal);
+        let second = Summed {
+            number,
+            place,
+            strongest: signal.strongest.to_bits(),
+            weakest: signal.weakest.to_bits(),
+            mean: signal.mean.to_bits(),
+        };
+        let call = format!("signal of {position}");
+        same(
+            &call,
+            exports::signal(lent, position),
+            second,
+            &[("file", file)],
+        )?;
+        self.signal.add(&counts::name(signal.refusal));
+        Ok(())
+    }
+
+    /// A new file in two buffers that are alike, the second program's and the library's.
+    fn new_file(
+        &mut self,
+        second: &mut [u8],
+        buffer: &mut Lent<u8>,
+        flows: &[u8],
+        key: &[u8],
+        choices: &mut Choices,
+    ) -> Result<u64, Difference> {
+        let before = second.to_vec();
+        let given = [("buffer", &before[..]), ("flows", flows), ("key", key)];
+        let written = writing::new_file(second, flows, key);
+        let (lent_flows, lent_key) = (choices.lend(flows, b'N'), choices.lend(key, b'N'));
+        let library = exports::new(buffer, &lent_flows, &lent_key);
+        same("new", library, made(written), &given)?;
+        holds("new", buffer, second, &given)?;
+        let only_read = lent_flows.unchanged() && lent_key.unchanged();
+        unchanged("new", only_read, &given)?;
+        self.new.add(&counts::name(written.refusal));
+        Ok(written.length)
+    }
+
+    /// An append in two buffers that are alike, the second program's and the library's.
+    fn append(
+        &mut self,
+        second: &mut [u8],
+        buffer: &mut Lent<u8>,
+        file_length: u64,
+        read: &NewRead,
+        choices: &mut Choices,
+    ) -> Result<u64, Difference> {
+        let before = second.to_vec();
+        let values: Vec<u8> = read
+            .values
+            .iter()
+            .flat_map(|value| value.to_be_bytes())
+            .collect();
+        let given = [
+            ("buffer", &before[..]),
+            ("name", read.name),
+            ("values", &values),
+            ("increments", read.increments),
+            ("bases", read.bases),
+            ("qualities", read.qualities),
+        ];
+        let call = format!("append, length {file_length}, clips {:?}", read.clips);
+        let written = writing::append(second, file_length, read);
+        let lent = choices.lend_read(read);
+        let library = exports::append(buffer, file_length, &lent);
+        same(&call, library, made(written), &given)?;
+        holds(&call, buffer, second, &given)?;
+        unchanged(&call, lent.unchanged(), &given)?;
+        self.append.add(&counts::name(written.refusal));
+        Ok(written.length)
+    }
+
+    /// "a new file and an append for each read leave these bytes in any buffer that holds them"
+    fn build(&mut self, call: &calls::BuildCall, choices: &mut Choices) -> Outcome {
+        let model = &call.model;
+        let (mut second, mut buffer) = (call.buffer.clone(), choices.lend(&call.buffer, 9));
+        let mut length =
+            self.new_file(&mut second, &mut buffer, &model.flows, &model.key, choices)?;
+        for read in &model.reads {
+            length = self.append(&mut second, &mut buffer, length, &read.lent(), choices)?;
+        }
+        let given = [("buffer", &call.buffer[..]), ("file", &call.file)];
+        same("a built file", length, call.file.len() as u64, &given)?;
+        holds("a built file", &buffer, &call.file, &given)
+    }
+}

@@ -1,0 +1,169 @@
+// C exports of the library's calls, for tests alone: each copies out what its call answers. No host calls them.
+ghost use mathlib.Core.Path.{_≡_};
+ghost use Rattle.sff_format.specs.Answer.{numberOf, placeOf};
+ghost use Rattle.sff_format.specs.FileTest.{fileTest};
+ghost use Rattle.sff_format.specs.Step.{fresh, step, found, stop};
+ghost use Rattle.sff_reader.specs.Forms.{stateOf};
+ghost use Rattle.harness.specs.Outs.{stateFrom, flag, viewClips, SmallClips, steppedWith, steppedOf};
+use sff::file_test;
+use sff_format::Answer;
+use sff_format::ReadView;
+use sff_reader::Reader;
+use sff_reader::Step;
+
+fn wide(x: u8) -> u64
+    ensures { λ r. ⌜ r ≡ x ⌝ }
+{
+    x as u64
+}
+
+fn number_of(answer: Answer) -> u64
+    ensures { λ r. ⌜ r ≡ numberOf answer ⌝ }
+{
+    let Answer::Refused(number, place) = answer else {
+        return 0;
+    };
+    wide(number)
+}
+
+fn place_of(answer: Answer) -> u64
+    ensures { λ r. ⌜ r ≡ placeOf answer ⌝ }
+{
+    let Answer::Refused(number, place) = answer else {
+        return 0;
+    };
+    place as u64
+}
+
+#[no_mangle]
+pub extern "C" fn h_test(file: &[u8], place: &mut u64) -> u64
+    ensures { λ r. ⌜ r ≡ numberOf (fileTest (now (file .entry))) ⌝ }
+    ensures { λ _. ⌜ now (place .exit) ≡ placeOf (fileTest (now (file .entry))) ⌝ }
+{
+    let answer = file_test(file);
+    *place = place_of(answer);
+    number_of(answer)
+}
+
+// What a step leaves, as numbers.
+pub struct Stepped {
+    pub number: u64,
+    pub place: u64,
+    pub at: u64,
+    pub passed: u64,
+    pub index_passed: u64,
+    pub read_start: u64,
+    pub name_length: u64,
+    pub bases: u64,
+    pub clips: u64,
+}
+
+fn flag_of(x: bool) -> u64
+    ensures { λ r. ⌜ r ≡ flag x ⌝ }
+{
+    if x { 1 } else { 0 }
+}
+
+fn clips_of(view: ReadView) -> u64
+    requires { ⌜ SmallClips view ⌝ }
+    ensures { λ r. ⌜ r ≡ viewClips view ⌝ }
+{
+    let quality = view.quality_left * 65536 + view.quality_right;
+    let adapter = view.adapter_left * 65536 + view.adapter_right;
+    (quality * 4294967296 + adapter) as u64
+}
+
+fn read_found(view: ReadView, next: Reader) -> Stepped
+    requires { ⌜ SmallClips view ⌝ }
+    ensures { λ r. ⌜ r ≡ steppedOf (found view (stateOf next)) ⌝ }
+{
+    Stepped {
+        number: 0,
+        place: 0,
+        at: next.place as u64,
+        passed: next.passed_reads as u64,
+        index_passed: flag_of(next.passed_index),
+        read_start: view.place as u64,
+        name_length: view.name.size as u64,
+        bases: view.bases.size as u64,
+        clips: clips_of(view),
+    }
+}
+
+fn read_refused(number: u8, place: usize, unmoved: Reader) -> Stepped
+    ensures { λ r. ⌜ r ≡ steppedOf (stop number place (stateOf unmoved)) ⌝ }
+{
+    Stepped {
+        number: wide(number),
+        place: place as u64,
+        at: unmoved.place as u64,
+        passed: unmoved.passed_reads as u64,
+        index_passed: flag_of(unmoved.passed_index),
+        read_start: 0,
+        name_length: 0,
+        bases: 0,
+        clips: 0,
+    }
+}
+
+fn step_on(file: &[u8], reader: Reader) -> Stepped
+    ensures { λ r. ⌜ r ≡ steppedOf (step (now (file .entry)) (stateOf reader)) ⌝ }
+{
+    let step = reader.step(file);
+    match step {
+        Step::Found(view, next) => read_found(view, next),
+        Step::Stopped(number, place, unmoved) => read_refused(number, place, unmoved),
+    }
+}
+
+#[no_mangle]
+pub extern "C" fn h_fresh(
+    file: &[u8],
+    at: &mut u64,
+    passed: &mut u64,
+    index_passed: &mut u64,
+) -> u64
+    ensures { λ r. ⌜ r ≡ 0 ⌝ }
+    ensures { λ _. ⌜ now (at .exit) ≡ fresh (now (file .entry)) .place ⌝ }
+    ensures { λ _. ⌜ now (passed .exit) ≡ fresh (now (file .entry)) .passed-reads ⌝ }
+    ensures { λ _. ⌜ now («index_passed» .exit) ≡ flag (fresh (now (file .entry)) .passed-index) ⌝ }
+{
+    let reader = Reader::fresh(file);
+    *at = reader.place as u64;
+    *passed = reader.passed_reads as u64;
+    *index_passed = flag_of(reader.passed_index);
+    0
+}
+
+// The state comes in and goes out by `at`, `passed` and `index_passed`; `place` is the refusal's, and the last four speak of the read.
+#[no_mangle]
+pub extern "C" fn h_step(
+    file: &[u8],
+    at: &mut u64,
+    passed: &mut u64,
+    index_passed: &mut u64,
+    place: &mut u64,
+    read_start: &mut u64,
+    name_length: &mut u64,
+    bases: &mut u64,
+    clips: &mut u64,
+) -> u64
+    ensures { λ r. ⌜ steppedWith r (now (place .exit)) (now (at .exit)) (now (passed .exit)) (now («index_passed» .exit)) (now («read_start» .exit)) (now («name_length» .exit)) (now (bases .exit)) (now (clips .exit))
+        ≡ steppedOf (step (now (file .entry)) (stateFrom (now (at .entry)) (now (passed .entry)) (now («index_passed» .entry)))) ⌝ }
+{
+    let reader = Reader {
+        place: *at as usize,
+        passed_reads: *passed as usize,
+        passed_index: *index_passed != 0,
+    };
+    let step = step_on(file, reader);
+    *at = step.at;
+    *passed = step.passed;
+    *index_passed = step.index_passed;
+    *place = step.place;
+    *read_start = step.read_start;
+    *name_length = step.name_length;
+    *bases = step.bases;
+    *clips = step.clips;
+    step.number
+}

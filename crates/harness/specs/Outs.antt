@@ -1,7 +1,11 @@
 -- What the exports leave, in the definitions' words. Assumes nothing: these are definitions.
-use Prim.Native.Nat.{ℕ, _+_, _*_, _<_}
+use Prim.Native.Nat.{ℕ, _+_, _*_, _/_, _%_, _<_}
 use mathlib.Core.Bool.{Bool, cond, not}
-use lib.Dec.{eqb}
+use mathlib.Core.List.{List}
+use lib.ListN.{length}
+use lib.Dec.{eqb, ltb}
+use Rattle.octets.specs.Parts.{putAt}
+use Rattle.sff_format.specs.declared.Clips.{Clips}
 use Rattle.sff_format.specs.declared.ReadView.{ReadView}
 use Rattle.sff_format.specs.Step.{State, Step, found, stop}
 use Rattle.harness.specs.declared.Stepped.{Stepped}
@@ -63,4 +67,17 @@ steppedOf (stop n p s) = record {
   «name_length» = 0;
   bases = 0;
   clips = 0;
+}
+
+-- bytes at the front of a buffer that has room for them; one that has not stays as it is
+unfoldable pub putFront : List ℕ → List ℕ → List ℕ
+putFront xs l = cond (ltb (length l) (length xs)) l (putAt 0 xs l)
+
+-- the clips that one number holds, the first highest
+abbrev pub clipsFrom : ℕ → Clips
+clipsFrom x = record {
+  «quality_left» = x / 281474976710656 % 65536;
+  «quality_right» = x / 4294967296 % 65536;
+  «adapter_left» = x / 65536 % 65536;
+  «adapter_right» = x % 65536;
 }

@@ -4,9 +4,11 @@ ghost use Rattle.sff_format.specs.Answer.{numberOf, placeOf};
 ghost use Rattle.sff_format.specs.FileTest.{fileTest};
 ghost use Rattle.sff_format.specs.Step.{fresh, step, found, stop};
 ghost use Rattle.sff_reader.specs.Forms.{stateOf};
-ghost use Rattle.harness.specs.Outs.{stateFrom, flag, viewClips, SmallClips, steppedWith, steppedOf};
+ghost use Rattle.harness.specs.Outs.{stateFrom, flag, viewClips, SmallClips, steppedWith, steppedOf, putFront, clipsFrom};
+use octets::copy;
 use sff::file_test;
 use sff_format::Answer;
+use sff_format::Clips;
 use sff_format::ReadView;
 use sff_reader::Reader;
 use sff_reader::Step;
@@ -166,4 +168,25 @@ pub extern "C" fn h_step(
     *bases = step.bases;
     *clips = step.clips;
     step.number
+}
+
+fn put_front(out: &mut [u8], bytes: &[u8])
+    ensures { λ _. ⌜ now (out .exit) ≡ putFront (now (bytes .entry)) (now (out .entry)) ⌝ }
+{
+    let n = bytes.len();
+    if out.len() < n {
+        return;
+    }
+    copy(out, 0, bytes, 0, n);
+}
+
+fn clips_from(x: u64) -> Clips
+    ensures { λ r. ⌜ r ≡ clipsFrom x ⌝ }
+{
+    Clips {
+        quality_left: (x / 281474976710656 % 65536) as u16,
+        quality_right: (x / 4294967296 % 65536) as u16,
+        adapter_left: (x / 65536 % 65536) as u16,
+        adapter_right: (x % 65536) as u16,
+    }
 }

@@ -3,6 +3,7 @@ ghost use mathlib.Core.Path.{_≡_};
 ghost use Rattle.sff_format.specs.Answer.{numberOf, placeOf};
 ghost use Rattle.sff_format.specs.FileTest.{fileTest};
 ghost use Rattle.sff_format.specs.Step.{fresh, step, found, stop};
+ghost use Rattle.sff_format.specs.Writing.{newOutcome, newBuffer};
 ghost use Rattle.sff_reader.specs.Forms.{stateOf};
 ghost use Rattle.harness.specs.Outs.{stateFrom, flag, viewClips, SmallClips, steppedWith, steppedOf, putFront, clipsFrom};
 use octets::copy;
@@ -12,6 +13,7 @@ use sff_format::Clips;
 use sff_format::ReadView;
 use sff_reader::Reader;
 use sff_reader::Step;
+use sff_writer::new_file;
 
 fn wide(x: u8) -> u64
     ensures { λ r. ⌜ r ≡ x ⌝ }
@@ -189,4 +191,25 @@ fn clips_from(x: u64) -> Clips
         adapter_left: (x / 65536 % 65536) as u16,
         adapter_right: (x % 65536) as u16,
     }
+}
+
+// `length` is the file's length afterwards.
+#[no_mangle]
+pub extern "C" fn h_new(
+    buffer: &mut [u8],
+    flows: &[u8],
+    key: &[u8],
+    place: &mut u64,
+    length: &mut u64,
+) -> u64
+    ensures { λ r. ⌜ r ≡ numberOf (newOutcome (now (buffer .entry)) (now (flows .entry)) (now (key .entry)) .answer) ⌝ }
+    ensures { λ _. ⌜ now (place .exit) ≡ placeOf (newOutcome (now (buffer .entry)) (now (flows .entry)) (now (key .entry)) .answer) ⌝ }
+    ensures { λ _. ⌜ now (length .exit) ≡ newOutcome (now (buffer .entry)) (now (flows .entry)) (now (key .entry)) .length ⌝ }
+    ensures { λ _. ⌜ now (buffer .exit) ≡ newBuffer (now (buffer .entry)) (now (flows .entry)) (now (key .entry)) ⌝ }
+{
+    let outcome = new_file(buffer, flows, key);
+    let answer = outcome.answer;
+    *place = place_of(answer);
+    *length = outcome.length as u64;
+    number_of(answer)
 }

@@ -1,18 +1,27 @@
 // C exports of the library's calls, for tests alone: each copies out what its call answers. No host calls them.
 ghost use mathlib.Core.Path.{_≡_};
+ghost use lib.ListN.{length};
 ghost use Rattle.sff_format.specs.Answer.{numberOf, placeOf};
 ghost use Rattle.sff_format.specs.FileTest.{fileTest};
 ghost use Rattle.sff_format.specs.Step.{fresh, step, found, stop};
-ghost use Rattle.sff_format.specs.Writing.{newOutcome, newBuffer};
+ghost use Rattle.sff_format.specs.Position.{positionTest, signalTest, fileInsert, fileFirst, fileLast};
+ghost use Rattle.sff_format.specs.Writing.{newOutcome, newBuffer, readOf, appendOutcome, appendBuffer};
 ghost use Rattle.sff_reader.specs.Forms.{stateOf};
+ghost use Rattle.sff_signal.specs.Signal.{fileSignal};
 ghost use Rattle.harness.specs.Outs.{stateFrom, flag, viewClips, SmallClips, steppedWith, steppedOf, putFront, clipsFrom};
 use octets::copy;
 use sff::file_test;
+use sff_find::position_test;
 use sff_format::Answer;
 use sff_format::Clips;
 use sff_format::ReadView;
+use sff_insert::insert;
+use sff_insert::insert_ends;
 use sff_reader::Reader;
 use sff_reader::Step;
+use sff_signal::signal;
+use sff_signal::signal_test;
+use sff_writer::append;
 use sff_writer::new_file;
 
 fn wide(x: u8) -> u64
@@ -193,6 +202,61 @@ fn clips_from(x: u64) -> Clips
     }
 }
 
+// The bases go to the front of `out` if it has room for them all; if not it stays as it is. `made` is how many they are in either case.
+#[no_mangle]
+pub extern "C" fn h_insert(
+    file: &[u8],
+    position: u64,
+    out: &mut [u8],
+    place: &mut u64,
+    first: &mut u64,
+    last: &mut u64,
+    made: &mut u64,
+) -> u64
+    ensures { λ r. ⌜ r ≡ numberOf (positionTest (now (file .entry)) position) ⌝ }
+    ensures { λ _. ⌜ now (place .exit) ≡ placeOf (positionTest (now (file .entry)) position) ⌝ }
+    ensures { λ _. ⌜ now (first .exit) ≡ fileFirst (now (file .entry)) position ⌝ }
+    ensures { λ _. ⌜ now (last .exit) ≡ fileLast (now (file .entry)) position ⌝ }
+    ensures { λ _. ⌜ now (made .exit) ≡ length (fileInsert (now (file .entry)) position) ⌝ }
+    ensures { λ _. ⌜ now (out .exit) ≡ putFront (fileInsert (now (file .entry)) position) (now (out .entry)) ⌝ }
+{
+    let at = position as usize;
+    let answer = position_test(file, at);
+    let ends = insert_ends(file, at);
+    let bases = insert(file, at);
+    *place = place_of(answer);
+    *first = ends.first.0 as u64;
+    *last = ends.last.0 as u64;
+    *made = bases.len() as u64;
+    put_front(out, bases);
+    number_of(answer)
+}
+
+#[no_mangle]
+pub extern "C" fn h_signal(
+    file: &[u8],
+    position: u64,
+    strongest: &mut f64,
+    weakest: &mut f64,
+    mean: &mut f64,
+    place: &mut u64,
+) -> u64
+    ensures { λ r. ⌜ r ≡ numberOf (signalTest (now (file .entry)) position) ⌝ }
+    ensures { λ _. ⌜ now (place .exit) ≡ placeOf (signalTest (now (file .entry)) position) ⌝ }
+    ensures { λ _. ⌜ now (strongest .exit) ≡ fileSignal (now (file .entry)) position .strongest ⌝ }
+    ensures { λ _. ⌜ now (weakest .exit) ≡ fileSignal (now (file .entry)) position .weakest ⌝ }
+    ensures { λ _. ⌜ now (mean .exit) ≡ fileSignal (now (file .entry)) position .mean ⌝ }
+{
+    let at = position as usize;
+    let answer = signal_test(file, at);
+    let summary = signal(file, at);
+    *place = place_of(answer);
+    *strongest = summary.strongest;
+    *weakest = summary.weakest;
+    *mean = summary.mean;
+    number_of(answer)
+}
+
 // `length` is the file's length afterwards.
 #[no_mangle]
 pub extern "C" fn h_new(
@@ -208,6 +272,40 @@ pub extern "C" fn h_new(
     ensures { λ _. ⌜ now (buffer .exit) ≡ newBuffer (now (buffer .entry)) (now (flows .entry)) (now (key .entry)) ⌝ }
 {
     let outcome = new_file(buffer, flows, key);
+    let answer = outcome.answer;
+    *place = place_of(answer);
+    *length = outcome.length as u64;
+    number_of(answer)
+}
+
+#[no_mangle]
+pub extern "C" fn h_append(
+    buffer: &mut [u8],
+    file_length: u64,
+    name: &[u8],
+    clips: u64,
+    values: &[u16],
+    increments: &[u8],
+    bases: &[u8],
+    qualities: &[u8],
+    place: &mut u64,
+    length: &mut u64,
+) -> u64
+    ensures { λ r. ⌜ r ≡ numberOf (appendOutcome (now (buffer .entry)) «file_length» (readOf (now (name .entry)) (clipsFrom clips) (now (values .entry)) (now (increments .entry)) (now (bases .entry)) (now (qualities .entry))) .answer) ⌝ }
+    ensures { λ _. ⌜ now (place .exit) ≡ placeOf (appendOutcome (now (buffer .entry)) «file_length» (readOf (now (name .entry)) (clipsFrom clips) (now (values .entry)) (now (increments .entry)) (now (bases .entry)) (now (qualities .entry))) .answer) ⌝ }
+    ensures { λ _. ⌜ now (length .exit) ≡ appendOutcome (now (buffer .entry)) «file_length» (readOf (now (name .entry)) (clipsFrom clips) (now (values .entry)) (now (increments .entry)) (now (bases .entry)) (now (qualities .entry))) .length ⌝ }
+    ensures { λ _. ⌜ now (buffer .exit) ≡ appendBuffer (now (buffer .entry)) «file_length» (readOf (now (name .entry)) (clipsFrom clips) (now (values .entry)) (now (increments .entry)) (now (bases .entry)) (now (qualities .entry))) ⌝ }
+{
+    let outcome = append(
+        buffer,
+        file_length as usize,
+        name,
+        clips_from(clips),
+        values,
+        increments,
+        bases,
+        qualities,
+    );
     let answer = outcome.answer;
     *place = place_of(answer);
     *length = outcome.length as u64;

@@ -1,0 +1,16 @@
+use mathlib.Core.Path.{ap, _∙_}
+use Rattle.sff_format.specs.Answer.{numberOf, placeOf}
+use borrow.Author.Needs.{needs}
+use Rattle.harness.proofs.h_signal.Statement.{statement}
+use Rattle.harness.proofs.h_signal.Tie as tie
+
+pub h-signal-spec : {M : Type 1} → statement M
+h-signal-spec =
+    tie.close
+    (tie.spec (λ c κs. search needs) (λ c κs. search needs) (λ c κs. search needs) (λ c κs. search needs) (λ c.
+    let d = c .before in
+    let s = d .before .signal .ensures in
+    let a = d .before .before .signal-test .ensures in (
+      c .number-of .ensures ∙ ap numberOf a,
+      (d .place-of .ensures ∙ ap placeOf a, (ap (λ x. x .strongest) s, (ap (λ x. x .weakest) s, ap (λ x. x .mean) s))),
+    )))

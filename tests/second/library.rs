@@ -39,6 +39,7 @@ fn main() {
 }
 
 fn compare(seed: u64, count: u64, first: u64) -> Result<(), String> {
+    file_e().map_err(|difference| difference.message)?;
     let mut comparison = Comparison::new();
     for number in first..first + count {
         comparison
@@ -55,6 +56,34 @@ fn compare(seed: u64, count: u64, first: u64) -> Result<(), String> {
         return Err(format!("never occurred: {}", missing.join(", ")));
     }
     Ok(())
+}
+
+/// Document 01: "insert 2 to 3, CC. Mean signal 0.75 (run)."
+fn file_e() -> Outcome {
+    let file = Lent::new(include_bytes!("../../samples/e.sff"), 1, 8);
+    let summed = Summed {
+        number: 0,
+        place: 0,
+        strongest: 2.0_f64.to_bits(),
+        weakest: 0.0_f64.to_bits(),
+        mean: 0.75_f64.to_bits(),
+    };
+    same("signal of E", exports::signal(&file, 0), summed, &[])?;
+    let mut out = Lent::new(b"--", 9, 8);
+    let inserted = Inserted {
+        number: 0,
+        place: 0,
+        first: 2,
+        last: 3,
+        made: 2,
+    };
+    same(
+        "insert of E",
+        exports::insert(&file, 0, &mut out),
+        inserted,
+        &[],
+    )?;
+    holds("insert of E", &out, b"CC", &[])
 }
 
 /// What differs in a call, and the bytes that it was given.

@@ -29,6 +29,13 @@ pub const OF_A_FILE: [&str; 21] = [
     "13",
 ];
 
+/// What a new file can answer, and what an append can beside the file's answers. 31 is missing: no file
+/// of a size to test has 4,294,967,295 reads.
+pub const OF_NEW: [&str; 4] = ["0", "5 given", "6 given", "26"];
+pub const OF_APPEND: [&str; 9] = [
+    "14", "25", "30", "5 given", "6 given", "9 given", "10 given", "11 given", "26",
+];
+
 /// The name of an answer. What a file and a writer's own input can both be refused for is told apart.
 pub fn name(refusal: Option<Refusal>) -> String {
     let Some(refusal) = refusal else {

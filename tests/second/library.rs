@@ -197,8 +197,7 @@ impl Choices {
     }
 }
 
-/// How often each answer of each call occurred. 31 has no place here: no file of a size to test has
-/// 4,294,967,295 reads.
+/// How often each answer of each call occurred.
 struct Comparison {
     test: Counts,
     step: Counts,
@@ -210,17 +209,14 @@ struct Comparison {
 
 impl Comparison {
     fn new() -> Comparison {
-        let of_append = [
-            "14", "25", "30", "5 given", "6 given", "9 given", "10 given", "11 given", "26",
-        ];
         Comparison {
             test: Counts::new(true, &[]),
             // 1 alone: the state's place is beyond the file.
             step: Counts::new(true, &["1", "33"]),
             insert: Counts::new(true, &["0 empty", "21"]),
             signal: Counts::new(true, &["21", "32"]),
-            new: Counts::new(false, &["0", "5 given", "6 given", "26"]),
-            append: Counts::new(true, &of_append),
+            new: Counts::new(false, &counts::OF_NEW),
+            append: Counts::new(true, &counts::OF_APPEND),
         }
     }
 

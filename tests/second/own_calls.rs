@@ -412,39 +412,100 @@ fn an_appended_file_is_accepted_with_one_read_more() {
 
 #[test]
 fn every_answer_of_a_writer_occurs_ten_times() {
-    let mut of_new = Counts::new(false, &["0", "5 given", "6 given", "26"]);
-    let mut of_append = Counts::new(
-        true,
-        &[
-            "14", "25", "30", "5 given", "6 given", "9 given", "10 given", "11 given", "26",
-        ],
-    );
-    // Just enough room, and one byte less than that.
-    let mut edges = [0; 4];
+    let mut of_new = Counts::new(false, &counts::OF_NEW);
+    let mut of_append = Counts::new(true, &counts::OF_APPEND);
     for number in 0..20_000 {
         let mut call = new_call(SEED, number);
-        let (enough, length) = (call.enough(), call.buffer.len());
-        let name = counts::name(new_file(&mut call.buffer, &call.flows, &call.key).refusal);
-        edges[0] += u64::from(name == "0" && length == enough);
-        edges[1] += u64::from(name == "26" && length + 1 == enough);
-        of_new.add(&name);
-
+        let written = new_file(&mut call.buffer, &call.flows, &call.key);
+        of_new.add(&counts::name(written.refusal));
         let mut call = append_call(SEED, number);
-        let (enough, length) = (call.enough(), call.buffer.len() as u64);
-        let read = call.read.lent();
-        let name = counts::name(append(&mut call.buffer, call.file_length, &read).refusal);
-        edges[2] += u64::from(name == "0" && length == enough);
-        edges[3] += u64::from(name == "26" && length + 1 == enough);
-        of_append.add(&name);
+        let written = append(&mut call.buffer, call.file_length, &call.read.lent());
+        of_append.add(&counts::name(written.refusal));
     }
-    println!(
-        "new: {}\nappend: {}\n{edges:?}",
-        of_new.line(),
-        of_append.line()
-    );
+    println!("new: {}\nappend: {}", of_new.line(), of_append.line());
     assert!(of_new.below(10).is_empty(), "{:?}", of_new.below(10));
     assert!(of_append.below(10).is_empty(), "{:?}", of_append.below(10));
-    assert!(edges.iter().all(|count| *count >= 10), "{edges:?}");
+}
+
+#[test]
+fn every_edge_of_a_writer_occurs_five_times() {
+    let mut edges = Counts::new(
+        false,
+        &[
+            "new: room just enough",
+            "new: one byte too few",
+            "new: the longest header",
+            "new: one character too many",
+            "append: room just enough",
+            "append: one byte too few",
+            "append: the longest name",
+            "append: one name byte too many",
+            "append: no name",
+            "append: no bases",
+            "append: no flows",
+            "append: as many flows as there can be",
+            "append: the count's second byte",
+        ],
+    );
+    let mut note = |is: bool, edge: &str| {
+        if is {
+            edges.add(edge);
+        }
+    };
+    for number in 0..20_000 {
+        let mut call = new_call(SEED, number);
+        let characters = call.flows.len() + call.key.len();
+        let (enough, length) = (call.enough(), call.buffer.len());
+        let answer = numbers(new_file(&mut call.buffer, &call.flows, &call.key).refusal).0;
+        note(answer == 0 && length == enough, "new: room just enough");
+        note(
+            answer == 26 && length + 1 == enough,
+            "new: one byte too few",
+        );
+        note(
+            answer == 0 && characters == 65_497,
+            "new: the longest header",
+        );
+        note(
+            answer == 5 && characters == 65_498,
+            "new: one character too many",
+        );
+
+        let mut call = append_call(SEED, number);
+        let read = call.read.lent();
+        let (enough, length) = (call.enough(), call.buffer.len() as u64);
+        let refusal = append(&mut call.buffer, call.file_length, &read).refusal;
+        let answer = numbers(refusal).0;
+        note(answer == 0 && length == enough, "append: room just enough");
+        note(
+            answer == 26 && length + 1 == enough,
+            "append: one byte too few",
+        );
+        note(
+            answer == 0 && read.name.len() == 65_512,
+            "append: the longest name",
+        );
+        let own = counts::name(refusal) == "5 given";
+        note(
+            own && read.name.len() == 65_513,
+            "append: one name byte too many",
+        );
+        if answer == 0 {
+            note(read.name.is_empty(), "append: no name");
+            note(read.bases.is_empty(), "append: no bases");
+            note(read.values.is_empty(), "append: no flows");
+            note(
+                read.values.len() == 65_497,
+                "append: as many flows as there can be",
+            );
+            note(
+                call.buffer[20..24] == [0, 0, 1, 0],
+                "append: the count's second byte",
+            );
+        }
+    }
+    println!("{}", edges.line());
+    assert!(edges.below(5).is_empty(), "{:?}", edges.below(5));
 }
 
 #[test]

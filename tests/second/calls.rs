@@ -218,8 +218,8 @@ fn set_somewhere<T: Copy>(random: &mut Random, list: &mut [T], value: T) {
     }
 }
 
-// Appends. No file of a size to test has 4,294,967,295 reads, so that 31 does not occur; nor does a
-// read of more bases than that.
+// Appends. No file of a size to test has 4,294,967,295 reads, so that 31 does not occur. A read of more
+// bases than that stands among the fixed cases of the comparison with the library.
 
 pub struct AppendCall {
     pub buffer: Vec<u8>,

@@ -234,3 +234,40 @@ pub fn append(buffer: &mut Lent<u8>, file_length: u64, read: &LentRead) -> Made 
         length,
     }
 }
+
+/// An append of a read without a name, a value or a clip, whose increments, bases and qualities are `count` bytes
+/// from `lists` on.
+pub fn append_many(
+    buffer: &mut Lent<u8>,
+    file_length: u64,
+    lists: *const u8,
+    count: usize,
+) -> Made {
+    let [mut place, mut length] = [UNSET; 2];
+    let none: [u16; 1] = [0];
+    let number = unsafe {
+        h_append(
+            buffer.pointer_to_write(),
+            buffer.len(),
+            file_length,
+            lists,
+            0,
+            0,
+            none.as_ptr(),
+            0,
+            lists,
+            count,
+            lists,
+            count,
+            lists,
+            count,
+            &mut place,
+            &mut length,
+        )
+    };
+    Made {
+        number,
+        place,
+        length,
+    }
+}

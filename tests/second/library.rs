@@ -40,6 +40,7 @@ fn main() {
 
 fn compare(seed: u64, count: u64, first: u64) -> Result<(), String> {
     file_e().map_err(|difference| difference.message)?;
+    many_bases().map_err(|difference| difference.message)?;
     let mut comparison = Comparison::new();
     for number in first..first + count {
         comparison
@@ -84,6 +85,45 @@ fn file_e() -> Outcome {
         &[],
     )?;
     holds("insert of E", &out, b"CC", &[])
+}
+
+extern "C" {
+    fn mmap(at: *mut u8, size: usize, access: i32, kind: i32, file: i32, offset: i64) -> *const u8;
+}
+
+/// 30 where "N above 4,294,967,295", and no sooner: as many bases as N can say are looked at, and the
+/// first increment, 0, gives 10. The lists are zeros that no page of memory holds before they are read.
+fn many_bases() -> Outcome {
+    const MOST: usize = 4_294_967_295;
+    let (readable, private_anonymous_unreserved) = (1, 0x2 | 0x20 | 0x4000);
+    let start = std::ptr::null_mut();
+    let lists = unsafe {
+        mmap(
+            start,
+            MOST + 1,
+            readable,
+            private_anonymous_unreserved,
+            -1,
+            0,
+        )
+    };
+    if lists as isize == -1 {
+        return differ("no address space for 4,294,967,296 bytes".to_string(), &[]);
+    }
+    let mut file = vec![0; 32];
+    let written = writing::new_file(&mut file, b"", b"");
+    for (count, number) in [(MOST, 10), (MOST + 1, 30)] {
+        let mut buffer = Lent::new(&file, 9, 8);
+        let made = Made {
+            number,
+            place: 0,
+            length: written.length,
+        };
+        let library = exports::append_many(&mut buffer, written.length, lists, count);
+        same(&format!("append of {count} bases"), library, made, &[])?;
+        holds("append of many bases", &buffer, &file, &[])?;
+    }
+    Ok(())
 }
 
 /// What differs in a call, and the bytes that it was given.

@@ -114,7 +114,7 @@ pub fn append(buffer: &mut [u8], file_length: u64, read: &NewRead) -> Written {
 }
 
 /// The tests in order, and else the new count and the new sections. No test reaches 31, since a file
-/// of so many reads has at least 64 GiB, nor an N above 4,294,967,295.
+/// of so many reads has at least 64 GiB.
 fn test_append(buffer: &[u8], file_length: u64, read: &NewRead) -> Result<(u64, Vec<u8>), Refusal> {
     // "14 length stated above the buffer"
     if file_length > buffer.len() as u64 {

@@ -167,9 +167,19 @@ pub struct Made {
     pub length: u64,
 }
 
-pub fn new(buffer: &mut Lent<u8>, flows: &Lent<u8>, key: &Lent<u8>) -> Made {
+/// A writer's call, given where place and length go.
+fn made(call: impl FnOnce(&mut u64, &mut u64) -> u64) -> Made {
     let [mut place, mut length] = [UNSET; 2];
-    let number = unsafe {
+    let number = call(&mut place, &mut length);
+    Made {
+        number,
+        place,
+        length,
+    }
+}
+
+pub fn new(buffer: &mut Lent<u8>, flows: &Lent<u8>, key: &Lent<u8>) -> Made {
+    made(|place, length| unsafe {
         h_new(
             buffer.pointer_to_write(),
             buffer.len(),
@@ -177,15 +187,10 @@ pub fn new(buffer: &mut Lent<u8>, flows: &Lent<u8>, key: &Lent<u8>) -> Made {
             flows.len(),
             key.pointer(),
             key.len(),
-            &mut place,
-            &mut length,
+            place,
+            length,
         )
-    };
-    Made {
-        number,
-        place,
-        length,
-    }
+    })
 }
 
 /// A read as it is lent: `clips` holds quality left, right, adapter left, right from the highest 16
@@ -207,8 +212,7 @@ impl LentRead {
 }
 
 pub fn append(buffer: &mut Lent<u8>, file_length: u64, read: &LentRead) -> Made {
-    let [mut place, mut length] = [UNSET; 2];
-    let number = unsafe {
+    made(|place, length| unsafe {
         h_append(
             buffer.pointer_to_write(),
             buffer.len(),
@@ -224,31 +228,25 @@ pub fn append(buffer: &mut Lent<u8>, file_length: u64, read: &LentRead) -> Made 
             read.bases.len(),
             read.qualities.pointer(),
             read.qualities.len(),
-            &mut place,
-            &mut length,
+            place,
+            length,
         )
-    };
-    Made {
-        number,
-        place,
-        length,
-    }
+    })
 }
 
-/// An append of a read without a name, a value or a clip, whose increments, bases and qualities are `count` bytes
-/// from `lists` on.
+/// An append of a read without a name, a value or a clip, whose increments, bases and qualities are
+/// the `count` bytes from `lists` on.
 pub fn append_many(
     buffer: &mut Lent<u8>,
     file_length: u64,
     lists: *const u8,
     count: usize,
 ) -> Made {
-    let [mut place, mut length] = [UNSET; 2];
-    let none: [u16; 1] = [0];
-    let number = unsafe {
+    let (to, room, none) = (buffer.pointer_to_write(), buffer.len(), [0_u16]);
+    made(|place, length| unsafe {
         h_append(
-            buffer.pointer_to_write(),
-            buffer.len(),
+            to,
+            room,
             file_length,
             lists,
             0,
@@ -261,13 +259,8 @@ pub fn append_many(
             count,
             lists,
             count,
-            &mut place,
-            &mut length,
+            place,
+            length,
         )
-    };
-    Made {
-        number,
-        place,
-        length,
-    }
+    })
 }

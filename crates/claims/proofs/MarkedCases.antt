@@ -3,7 +3,7 @@ use mathlib.Core.Path.{refl}
 use Rattle.octets.specs.Parts.{wholePart, filled, insertAt}
 use Rattle.octets.specs.Numbers.{bigEndianFrom, number, bytesOf, fields, words}
 use Rattle.octets.specs.Scans.{run, firstNot}
-use Rattle.sff_format.specs.Answer.{when, shifted, _then_}
+use Rattle.sff_format.specs.Answer.{when, shifted, _then_, acceptedOr}
 use Rattle.sff_format.specs.Rules.{declared, badIndexLength, badIndex, indexSize, leftLimit, rightLimit, isFlow, walkRun, isCall, callRun}
 use Rattle.sff_format.specs.Model.{headerFields, layoutHeader, readFields, layoutReadHeader, layoutReadData, layoutRead, layoutReads, layoutIndex, layout}
 use Rattle.sff_format.specs.HeaderTest.{fixedTest, charactersTest, headerTest}
@@ -12,7 +12,7 @@ use Rattle.sff_format.specs.FileTest.{indexDue, passTest, indexTest, pastIndex,
 use Rattle.sff_format.specs.Places.{placeFrom, readPlace}
 use Rattle.sff_format.specs.Insert.{firstBase, rightEnd, lastBase}
 use Rattle.sff_format.specs.View.{viewAt}
-use Rattle.sff_format.specs.Position.{positionTest, acceptedOr, insertStretch, fileInsert, fileFirst, fileLast}
+use Rattle.sff_format.specs.Position.{positionTest, insertStretch, fileInsert, fileFirst, fileLast}
 use Rattle.claims.specs.Marked.{All, table}
 
 pub marked : All table

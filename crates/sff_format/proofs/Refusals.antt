@@ -8,12 +8,12 @@ use lib.ListN.{length, take}
 use lib.Dec.{ltb}
 use Rattle.sff_format.specs.declared.Answer.{Answer}
 use Rattle.sff_format.specs.declared.Answer.the-variants.{Accepted, Refused}
-use Rattle.sff_format.specs.Answer.{numberOf, when, shifted, own, _then_}
+use Rattle.sff_format.specs.Answer.{numberOf, when, shifted, own, _then_, acceptedOr}
 use Rattle.sff_format.specs.HeaderTest.{fixedTest, charactersTest, headerTest, readCount, headerLength, flowCharacters}
 use Rattle.sff_format.specs.ReadTest.{nameTest, clipTest, basesTest, dataTest, readTest}
 use Rattle.sff_format.specs.FileTest.{indexHere, passTest, indexTest, endTest, boundaryTest, fileTest}
 use Rattle.sff_format.specs.Model.{Read, File}
-use Rattle.sff_format.specs.Position.{positionTest, signalTest, acceptedOr}
+use Rattle.sff_format.specs.Position.{positionTest, signalTest}
 use Rattle.sff_format.specs.Writing.{newTest, newOutcome, givenTest, openTest, appendTest, appendOutcome, appendBuffer, Left, appendEach, writeEach}
 use Rattle.sff_format.specs.Step.{State, boundary, indexPassed, readOrNone, stepTest}
 

@@ -17,11 +17,11 @@ use Rattle.octets.proofs.Every.{none-fails, every-passes, every-left, every-rig
 use Rattle.sff_format.specs.declared.Answer.{Answer}
 use Rattle.sff_format.specs.declared.Answer.the-variants.{Accepted, Refused}
 use Rattle.sff_format.specs.Rules.{declared, badIndex}
+use Rattle.sff_format.specs.Answer.{acceptedOr}
 use Rattle.sff_format.specs.Model.{Read, File, noIndex, layoutRead, layout, withReads}
 use Rattle.sff_format.specs.Valid.{ValidRead, ValidReads, Valid}
 use Rattle.sff_format.specs.HeaderTest.{indexOffset, indexLength, readCount, flowCharacters}
 use Rattle.sff_format.specs.FileTest.{fileTest}
-use Rattle.sff_format.specs.Position.{acceptedOr}
 use Rattle.sff_format.specs.Writing.{newFile, newTest, newOutcome, newBuffer, givenTest, openTest, appendTest, appendOutcome, appendBuffer, Left, appendEach, writeEach, Lent, AllLent}
 use Rattle.sff_format.proofs.Answers.{first-ok, second-ok, both-ok, when-ok, ok-when, under-ok, ok-under, not-accepted}
 use Rattle.sff_format.proofs.Sizes.{length-header}

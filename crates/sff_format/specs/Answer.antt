@@ -38,3 +38,8 @@ shifted from (Refused n p) = Refused n (from + p)
 unfoldable pub own : Answer → Answer
 own Accepted = Accepted
 own (Refused n p) = Refused n 0
+
+-- the first where a test accepts, else the second
+unfoldable pub acceptedOr : {A : Type 0} → Answer → A → A → A
+acceptedOr Accepted x y = x
+acceptedOr (Refused n p) x y = y

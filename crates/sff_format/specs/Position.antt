@@ -7,7 +7,7 @@ use Rattle.sff_format.specs.declared.Answer.{Answer}
 use Rattle.sff_format.specs.declared.Answer.the-variants.{Accepted, Refused}
 use Rattle.sff_format.specs.declared.Stretch.{Stretch}
 use Rattle.sff_format.specs.declared.ReadView.{ReadView}
-use Rattle.sff_format.specs.Answer.{when, _then_}
+use Rattle.sff_format.specs.Answer.{when, acceptedOr, _then_}
 use Rattle.sff_format.specs.HeaderTest.{readCount, flows}
 use Rattle.sff_format.specs.FileTest.{fileTest}
 use Rattle.sff_format.specs.Places.{readPlace}
@@ -20,11 +20,6 @@ positionTest b i = fileTest b then when (not (ltb i (readCount b))) 21 0
 -- "the file's, 21, 32": "signal summary with F = 0"
 unfoldable pub signalTest : List ℕ → ℕ → Answer
 signalTest b i = positionTest b i then when (eqb (flows b) 0) 32 0
-
--- the first where a test accepts, else the second
-unfoldable pub acceptedOr : {A : Type 0} → Answer → A → A → A
-acceptedOr Accepted x y = x
-acceptedOr (Refused n p) x y = y
 
 -- the read at a position, in numbers
 abbrev pub viewOf : List ℕ → ℕ → ReadView

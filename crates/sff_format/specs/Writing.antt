@@ -12,7 +12,7 @@ use Rattle.sff_format.specs.declared.Answer.{Answer}
 use Rattle.sff_format.specs.declared.Answer.the-variants.{Accepted}
 use Rattle.sff_format.specs.declared.Outcome.{Outcome}
 use Rattle.sff_format.specs.declared.Clips.{Clips}
-use Rattle.sff_format.specs.Answer.{when, own, _then_}
+use Rattle.sff_format.specs.Answer.{when, own, _then_, acceptedOr}
 use Rattle.sff_format.specs.Rules.{declared}
 use Rattle.sff_format.specs.Model.{Read, File, noIndex, layoutRead, layout}
 use Rattle.sff_format.specs.HeaderTest.{indexOffset, indexLength, readCount, flowCharacters}
@@ -20,7 +20,6 @@ use Rattle.sff_format.specs.ReadTest.{clipTest, basesTest}
 use Rattle.sff_format.specs.FileTest.{fileTest}
 use Rattle.sff_format.specs.Parse.{parse}
 use Rattle.sff_format.specs.Places.{readAt}
-use Rattle.sff_format.specs.Position.{acceptedOr}
 
 -- "also answers the file's length afterwards (the length given if nothing is done; 0 for a refused new file)"
 abbrev pub outcome : Answer → ℕ → ℕ → Outcome

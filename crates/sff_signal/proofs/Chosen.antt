@@ -8,8 +8,9 @@ use lib.Ieee.{binary64, ofBits, ofFields, odd}
 use Rattle.octets.specs.Numbers.{Bytes, wordsAt}
 use Rattle.sff_format.specs.declared.Answer.the-variants.{Accepted, Refused}
 use Rattle.sff_format.specs.declared.ReadView.{ReadView}
+use Rattle.sff_format.specs.Answer.{acceptedOr}
 use Rattle.sff_format.specs.HeaderTest.{flows}
-use Rattle.sff_format.specs.Position.{signalTest, acceptedOr, viewOf}
+use Rattle.sff_format.specs.Position.{signalTest, viewOf}
 use Rattle.sff_format.proofs.Positions.{signal-position, signal-flows, flows-small, values-size, values-inside, values-chosen}
 use Rattle.sff_signal.specs.Signal.{none, summaryOf, fileSignal}
 

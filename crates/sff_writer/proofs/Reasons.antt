@@ -16,13 +16,12 @@ use Rattle.octets.proofs.AllBytes.{bytes-take}
 use Rattle.octets.proofs.Stands.{number-small}
 use Rattle.sff_format.specs.declared.Answer.{Answer}
 use Rattle.sff_format.specs.declared.Answer.the-variants.{Accepted, Refused}
-use Rattle.sff_format.specs.Answer.{when, own, _then_}
+use Rattle.sff_format.specs.Answer.{when, own, _then_, acceptedOr}
 use Rattle.sff_format.specs.Model.{Read, layoutRead, layout}
 use Rattle.sff_format.specs.Rules.{declared}
 use Rattle.sff_format.specs.HeaderTest.{indexOffset, indexLength, readCount, flows, flowCharacters}
 use Rattle.sff_format.specs.ReadTest.{clipTest, basesTest}
 use Rattle.sff_format.specs.FileTest.{fileTest}
-use Rattle.sff_format.specs.Position.{acceptedOr}
 use Rattle.sff_format.specs.Writing.{newFile, newTest, newOutcome, newBuffer, badCounts, givenTest, openTest, appendTest, appendOutcome, appendBuffer}
 use Rattle.sff_format.proofs.Answers.{first-ok, second-ok, when-ok, under-ok}
 use Rattle.sff_format.proofs.HeaderLaws.{fits-31}

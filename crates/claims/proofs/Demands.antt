@@ -1,4 +1,6 @@
--- The demands on the file's test, on reading and on writing, each in the tender's words. Assumes nothing.
+-- The demands on the file's test, on reading and on writing, each in the tender's words, over the definitions. That the code answers what a definition says is the promise of
+-- `sff::file_test` (fileTest), of `Reader::fresh` and `step` (fresh, step), of `sff_insert` (fileInsert, fileFirst, fileLast) and of `sff_writer` (newOutcome and newBuffer, appendOutcome and
+-- appendBuffer, of which writeEach is made). Assumes nothing.
 use Prim.Native.Nat.{ℕ, suc, _+_, _≤_, _<_}
 use mathlib.Core.Path.{_≡_, ap}
 use mathlib.Core.Bool.{false}

@@ -1,7 +1,7 @@
 -- The demands on the file's test, on reading and on writing, each in the tender's words, over the definitions. That the code answers what a definition says is the promise of
 -- `sff::file_test` (fileTest), of `Reader::fresh` and `step` (fresh, step), of `sff_insert` (fileInsert, fileFirst, fileLast) and of `sff_writer` (newOutcome and newBuffer, appendOutcome and
 -- appendBuffer, of which writeEach is made). Assumes nothing.
-use Prim.Native.Nat.{ℕ, suc, _+_, _≤_, _<_}
+use Prim.Native.Nat.{ℕ, suc, _+_, _-_, _≤_, _<_}
 use mathlib.Core.Path.{_≡_, ap}
 use mathlib.Core.Bool.{false}
 use mathlib.Core.Logic.{_↔_}
@@ -9,6 +9,7 @@ use mathlib.Core.List.{List, [], _∷_, _++_}
 use lib.ListN.{length, take, drop}
 use Rattle.octets.specs.Parts.{putAt}
 use Rattle.octets.specs.Numbers.{Bytes}
+use Rattle.octets.proofs.AllBytes.{bytes-take}
 use Rattle.sff_format.specs.declared.Answer.the-variants.{Accepted, Refused}
 use Rattle.sff_format.specs.Answer.{numberOf, _then_}
 use Rattle.sff_format.specs.Rules.{declared}
@@ -20,18 +21,19 @@ use Rattle.sff_format.specs.Parse.{parse}
 use Rattle.sff_format.specs.Places.{readAt, place, readPlace}
 use Rattle.sff_format.specs.Insert.{insertFirst, insertLast, insertOf}
 use Rattle.sff_format.specs.Step.{State, fresh, stepTest, lastAnswer, readBack}
-use Rattle.sff_format.specs.Position.{positionTest, fileInsert, fileFirst, fileLast}
-use Rattle.sff_format.specs.Writing.{appendTest, appendBuffer, writeEach, Holder, Lent, AllLent}
+use Rattle.sff_format.specs.Position.{positionTest, signalTest, viewOf, insertStretch, fileInsert, fileFirst, fileLast}
+use Rattle.sff_format.specs.Writing.{newTest, givenTest, appendTest, appendBuffer, writeEach, Holder, Lent, AllLent}
 use Rattle.sff_format.proofs.Format.{accepted, one-file}
 use Rattle.sff_format.proofs.FileLaid.{file-laid}
 use Rattle.sff_format.proofs.FileTaken.{file-back}
 use Rattle.sff_format.proofs.Places.{place-found, read-split}
-use Rattle.sff_format.proofs.Positions.{insert-chosen, first-chosen, last-chosen}
+use Rattle.sff_format.proofs.Positions.{insert-chosen, first-chosen, last-chosen, insert-inside, insert-length}
 use Rattle.sff_format.proofs.Inserted.{insert-within}
 use Rattle.sff_format.proofs.Writers.{write-each, write-exactly}
-use Rattle.sff_format.proofs.Holders.{append-exactly}
-use Rattle.sff_format.proofs.Rewritten.{written-back, written-again, append-afresh, append-valid}
-use Rattle.sff_format.proofs.Refusals.{file-zero, step-zero, append-zero, written-zero}
+use Rattle.sff_format.proofs.Holders.{given-exactly, append-exactly}
+use Rattle.sff_format.proofs.Rewritten.{written-back, written-again}
+use Rattle.sff_format.proofs.Appends.{append-afresh, append-valid}
+use Rattle.sff_format.proofs.Refusals.{file-zero, step-zero, position-zero, signal-zero, new-zero, append-zero, written-zero}
 use Rattle.sff_format.proofs.Steps.{steps-end, reads-in-order, then-33}
 
 -- "A file is accepted exactly if it keeps the SFF rules": if it is the layout of a file that keeps them, which is then one alone. Its number is then 0, and
@@ -65,6 +67,13 @@ pub insert-of-read : (b : List ℕ) (i : ℕ) → Bytes b → positionTest b i �
     → (fileInsert b i ≡ insertOf (readAt (parse b) i)) × (fileFirst b i ≡ insertFirst (readAt (parse b) i)) × (fileLast b i ≡ insertLast (readAt (parse b) i))
 insert-of-read b i y a = (insert-chosen b i a y, first-chosen b i a y, last-chosen b i a y)
 
+-- what is handed over is a stretch of the read's bases in the file, from the first base to the last
+pub insert-within-bases : (b : List ℕ) (i : ℕ) → Bytes b → positionTest b i ≡ Accepted
+    → (viewOf b i .bases .at ≤ insertStretch (viewOf b i) .at)
+    × (insertStretch (viewOf b i) .at + insertStretch (viewOf b i) .size ≤ viewOf b i .bases .at + viewOf b i .bases .size)
+    × (length (fileInsert b i) ≡ suc (fileLast b i) - fileFirst b i)
+insert-within-bases b i y a = let h = insert-inside b i a y in (h .0, h .1, insert-length b i y)
+
 -- a non-empty insert lies within the read
 pub insert-within-read : (characters : List ℕ) (r : Read) → ValidRead characters r → insertFirst r ≤ insertLast r → (1 ≤ insertFirst r) × (insertLast r ≤ length (r .bases))
 insert-within-read characters r v h = insert-within v h
@@ -79,9 +88,21 @@ then-none-left = then-33
 pub refused-at-last : (b : List ℕ) → lastAnswer b (suc (readCount b)) (fresh b) ≡ (fileTest b then Refused 33 (length b))
 refused-at-last = steps-end
 
--- a step's number is 0 exactly where it finds a read
-pub found-exactly : (b : List ℕ) (s : State) → (numberOf (stepTest b s) ≡ 0) ↔ (stepTest b s ≡ Accepted)
-found-exactly b s = (step-zero b s, (λ e. ap numberOf e))
+-- "Every answer has a number (0 accepted)": no refusal has it, of a step, a position, a signal summary, a new file, an append
+pub step-accepted-at-0 : (b : List ℕ) (s : State) → (numberOf (stepTest b s) ≡ 0) ↔ (stepTest b s ≡ Accepted)
+step-accepted-at-0 b s = (step-zero b s, (λ e. ap numberOf e))
+
+pub position-accepted-at-0 : (b : List ℕ) (i : ℕ) → (numberOf (positionTest b i) ≡ 0) ↔ (positionTest b i ≡ Accepted)
+position-accepted-at-0 b i = (position-zero b i, (λ e. ap numberOf e))
+
+pub signal-accepted-at-0 : (b : List ℕ) (i : ℕ) → (numberOf (signalTest b i) ≡ 0) ↔ (signalTest b i ≡ Accepted)
+signal-accepted-at-0 b i = (signal-zero b i, (λ e. ap numberOf e))
+
+pub new-accepted-at-0 : (room : ℕ) (characters key : List ℕ) → (numberOf (newTest room characters key) ≡ 0) ↔ (newTest room characters key ≡ Accepted)
+new-accepted-at-0 room characters key = (new-zero room characters key, (λ e. ap numberOf e))
+
+pub append-accepted-at-0 : (buffer : List ℕ) (len : ℕ) (r : Read) → (numberOf (appendTest buffer len r) ≡ 0) ↔ (appendTest buffer len r ≡ Accepted)
+append-accepted-at-0 buffer len r = (append-zero buffer len r, (λ e. ap numberOf e))
 
 -- "Without one, a new file and an append for each read leave these bytes in any buffer that holds them": the bytes of writing afresh at its front, all else as it was
 pub written-afresh : (f : File) → f .index ≡ noIndex → Valid f → (buffer : List ℕ) → length (layout f) ≤ length buffer
@@ -108,9 +129,13 @@ read-and-written-again = written-again
 pub appended-afresh : (buffer : List ℕ) (len : ℕ) (r : Read) → Bytes buffer → Lent r → appendTest buffer len r ≡ Accepted
     → (appendBuffer buffer len r ≡ putAt 0 (layout (withReads (parse (take len buffer) .reads ++ (r ∷ [])) (parse (take len buffer)))) buffer)
     × Valid (withReads (parse (take len buffer) .reads ++ (r ∷ [])) (parse (take len buffer)))
-appended-afresh buffer len r y t a = (append-afresh buffer len r y a, append-valid buffer len r y a t)
+appended-afresh buffer len r y t a = let z = bytes-take len buffer y in (append-afresh buffer len r z a, append-valid buffer len r z a t)
 
--- an append refuses a read exactly if no accepted file could hold it, where the file has no index and fewer reads than the count can say, and the buffer has room
+-- an append refuses a read exactly if no accepted file could hold it: the read's own reasons, 30, 5, 6, 9, 10 and 11, hold exactly if none with the file's flow characters could
+pub read-refused-exactly : (b : List ℕ) (r : Read) → Bytes b → fileTest b ≡ Accepted → Lent r → (givenTest (flowCharacters b) r ≡ Accepted) ↔ Holder (flowCharacters b) r
+read-refused-exactly = given-exactly
+
+-- and so for the whole append, where the file has no index and fewer reads than the count can say, and the buffer has room
 pub append-refuses-exactly : (buffer : List ℕ) (len : ℕ) (r : Read) → Bytes buffer → Lent r → len ≤ length buffer → fileTest (take len buffer) ≡ Accepted
     → declared (indexOffset (take len buffer)) (indexLength (take len buffer)) ≡ false → readCount (take len buffer) < 4294967295 → len + length (layoutRead r) ≤ length buffer
     → (numberOf (appendTest buffer len r) ≡ 0) ↔ Holder (flowCharacters (take len buffer)) r

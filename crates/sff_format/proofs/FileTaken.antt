@@ -48,7 +48,7 @@ module _ (b : List ℕ) (head : headerTest b ≡ Accepted) where
       let l : length b - p ≡ 0 = sym (length-drop p b) ∙ ap length e in
       both-ok _ _ (ok-when _ _ _ d) (ok-under p (length b) _ _ (omega arith))
 
-  -- a boundary with no index to pass, at which a read header-first
+  -- a boundary with no index to pass, at which a read stands
   module _ (r : Read) (rs : List Read) (p : ℕ) (q : Bool) (h : indexHere b p q ≡ false) (v : ValidRead (flowCharacters b) r) (l : p ≤ length b) (s : Stands p (layoutRead r) b) where
     read-next : readEnd (flows b) b p ≡ p + length (layoutRead r)
     read-next = rw (characters-length b head) at (read-size (flowCharacters b) b p r v l s)

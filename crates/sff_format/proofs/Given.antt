@@ -99,7 +99,3 @@ module _ (characters : List ℕ) (r : Read) where
       )
       )
       )
-
--- a read that keeps the rules can be lent
-pub valid-lent : (characters : List ℕ) (r : Read) → ValidRead characters r → Lent r
-valid-lent characters r v = record { clips-fit = v .clips-fit; values-fit = v .values-fit; bytes-good = v .bytes-good }

@@ -6,7 +6,6 @@ use mathlib.Core.Logic.{_↔_}
 use mathlib.Core.List.{List, [], _∷_}
 use native.Mathlib.Omega.{arith}
 use lib.ListN.{length, take, getD}
-use borrow.Author.Tests.{ne-eqb}
 use Rattle.octets.specs.Numbers.{Bytes}
 use Rattle.octets.proofs.AllBytes.{bytes-take}
 use Rattle.sff_format.specs.declared.Answer.the-variants.{Accepted}
@@ -18,13 +17,12 @@ use Rattle.sff_format.specs.FileTest.{fileTest}
 use Rattle.sff_format.specs.Parse.{parse}
 use Rattle.sff_format.specs.Places.{noRead, readAt}
 use Rattle.sff_format.specs.Writing.{givenTest, appendTest, Holder, Lent}
-use Rattle.sff_format.proofs.Answers.{first-ok, second-ok}
 use Rattle.sff_format.proofs.HeaderLaws.{count-is, characters-are}
 use Rattle.sff_format.proofs.FileLaid.{length-parsed, file-valid}
 use Rattle.sff_format.proofs.FileTaken.{header-first, file-taken, file-back}
 use Rattle.sff_format.proofs.Written.{layout-bytes}
 use Rattle.sff_format.proofs.Given.{given-valid, valid-given}
-use Rattle.sff_format.proofs.Writers.{plain, plain-valid, append-ok}
+use Rattle.sff_format.proofs.Appends.{plain, plain-valid, carried, carried-out}
 
 -- each of the reads that keep the rules does
 valid-at : (characters : List ℕ) (rs : List Read) (i : ℕ) → i < length rs → ValidReads characters rs → ValidRead characters (getD rs i noRead)
@@ -68,17 +66,20 @@ module _ (b : List ℕ) (y : Bytes b) (e : fileTest b ≡ Accepted) (r : Read) (
         holds = ap (λ (g : File). readAt g 0) (file-back f alone-valid);
       }
 
--- In a buffer with room, after a file with no index and fewer reads than the count can say, an append is carried out exactly if some accepted file could hold the read.
+-- A read's own reasons to be refused (30, 5, 6, 9, 10, 11) hold exactly if no accepted file with these flow characters could hold it.
+pub given-exactly : (b : List ℕ) (r : Read) → Bytes b → fileTest b ≡ Accepted → Lent r → (givenTest (flowCharacters b) r ≡ Accepted) ↔ Holder (flowCharacters b) r
+given-exactly b r y e t = (
+  (λ g. valid-holder b y e r (given-valid (flowCharacters b) r t g)),
+  (λ k. valid-given (flowCharacters b) r (holder-valid (flowCharacters b) r k)),
+)
+
+-- In a buffer with room, after a file with no index and fewer reads than the count can say, an append is carried out exactly if some such file could hold the read.
 module _ (buffer : List ℕ) (len : ℕ) (r : Read) (y : Bytes buffer) (t : Lent r) (h : len ≤ length buffer) (e : fileTest (take len buffer) ≡ Accepted)
     (i : declared (indexOffset (take len buffer)) (indexLength (take len buffer)) ≡ false) (n : readCount (take len buffer) < 4294967295)
     (m : len + length (layoutRead r) ≤ length buffer) where
-  given-ok : appendTest buffer len r ≡ Accepted → givenTest (flowCharacters (take len buffer)) r ≡ Accepted
-  unfolding appendTest
-  given-ok a = first-ok _ _ (second-ok _ _ (second-ok _ _ a))
-
   pub append-exactly : (appendTest buffer len r ≡ Accepted) ↔ Holder (flowCharacters (take len buffer)) r
-  append-exactly = (
-    (λ a. valid-holder (take len buffer) (bytes-take len buffer y) e r (given-valid (flowCharacters (take len buffer)) r t (given-ok a))),
-    (λ k. append-ok buffer len r h e i (ne-eqb (readCount (take len buffer)) 4294967295 (λ q. let a : ⊥ = omega (arith, n, q) in a))
-        (valid-given (flowCharacters (take len buffer)) r (holder-valid (flowCharacters (take len buffer)) r k)) m),
-  )
+  append-exactly =
+      let g = given-exactly (take len buffer) r (bytes-take len buffer y) e t in (
+        (λ a. g .0 (carried buffer len r a .given)),
+        (λ k. carried-out buffer len r (record { stated = h; accepted = e; no-index = i; below = λ q. let a : ⊥ = omega (arith, n, q) in a; given = g .1 k; room = m })),
+      )

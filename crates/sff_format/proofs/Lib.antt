@@ -23,6 +23,7 @@ pub mod Steps
 -- Writing: a read appended, one that is lent to be written, the writers one after another, and what they leave read back.
 pub mod Appended
 pub mod Given
+pub mod Appends
 pub mod Writers
 pub mod Holders
 pub mod Rewritten

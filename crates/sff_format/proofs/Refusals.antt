@@ -14,7 +14,7 @@ use Rattle.sff_format.specs.ReadTest.{nameTest, clipTest, basesTest, dat
 use Rattle.sff_format.specs.FileTest.{indexHere, passTest, indexTest, endTest, boundaryTest, fileTest}
 use Rattle.sff_format.specs.Model.{Read, File}
 use Rattle.sff_format.specs.Position.{positionTest, signalTest}
-use Rattle.sff_format.specs.Writing.{newTest, newOutcome, givenTest, openTest, appendTest, appendOutcome, appendBuffer, Left, appendEach, writeEach}
+use Rattle.sff_format.specs.Writing.{newTest, newOutcome, givenTest, openTest, appendTest, appendOutcome, Left, newIn, appendTo, appendEach, writeEach}
 use Rattle.sff_format.specs.Step.{State, boundary, indexPassed, readOrNone, stepTest}
 
 -- accepted, or refused with a number that is not 0
@@ -192,21 +192,22 @@ pub append-zero : (buffer : List ℕ) (len : ℕ) (r : Read) → numberOf (appen
 append-zero buffer len r e = zero-accepted (appendTest buffer len r) (append-numbered buffer len r) e
 
 -- nor of a file that is written
-append-outcome : (buffer : List ℕ) (len : ℕ) (r : Read) → Numbered (appendOutcome buffer len r .answer)
+append-outcome : (w : Left) (r : Read) → Numbered (appendTo w r .outcome .answer)
 unfolding appendOutcome
-append-outcome buffer len r = append-numbered buffer len r
+append-outcome w r = append-numbered (w .buffer) (w .outcome .length) r
+
+either-numbered : (a : Answer) (v w : Left) → Numbered (v .outcome .answer) → Numbered (w .outcome .answer) → Numbered (acceptedOr a v w .outcome .answer)
+unfolding acceptedOr
+either-numbered Accepted v w h k = h
+either-numbered (Refused n p) v w h k = k
 
 each-numbered : (w : Left) (rs : List Read) → Numbered (w .outcome .answer) → Numbered (appendEach w rs .outcome .answer)
-unfolding appendEach acceptedOr
+unfolding appendEach
 each-numbered w [] h = h
-each-numbered w (r ∷ rs) h = go (w .outcome .answer) h (each-numbered (record { outcome = appendOutcome (w .buffer) (w .outcome .length) r; buffer = appendBuffer (w .buffer) (w .outcome .length) r }) rs (append-outcome (w .buffer) (w .outcome .length) r))
-  where
-    go : (a : Answer) → Numbered (w .outcome .answer)
-        → Numbered (appendEach (record { outcome = appendOutcome (w .buffer) (w .outcome .length) r; buffer = appendBuffer (w .buffer) (w .outcome .length) r }) rs .outcome .answer)
-        → Numbered (acceptedOr a (appendEach (record { outcome = appendOutcome (w .buffer) (w .outcome .length) r; buffer = appendBuffer (w .buffer) (w .outcome .length) r }) rs) w .outcome .answer)
-    go Accepted k m = m
-    go (Refused n p) k m = k
+each-numbered w (r ∷ rs) h = either-numbered (w .outcome .answer) (appendEach (appendTo w r) rs) w (each-numbered (appendTo w r) rs (append-outcome w r)) h
 
 pub written-zero : (buffer : List ℕ) (f : File) → numberOf (writeEach buffer f .outcome .answer) ≡ 0 → writeEach buffer f .outcome .answer ≡ Accepted
 unfolding writeEach newOutcome
-written-zero buffer f e = zero-accepted (writeEach buffer f .outcome .answer) (each-numbered _ (f .reads) (new-numbered (length buffer) (f .flow-characters) (f .key))) e
+written-zero buffer f e =
+    zero-accepted (writeEach buffer f .outcome .answer)
+    (each-numbered (newIn buffer (f .flow-characters) (f .key)) (f .reads) (new-numbered (length buffer) (f .flow-characters) (f .key))) e

@@ -6,51 +6,27 @@ use mathlib.Core.Logic.{_↔_}
 use mathlib.Core.List.{List, [], _∷_, _++_, append-assoc, append-nil}
 use native.Mathlib.Omega.{arith}
 use lib.ListN.{length, take, length-append}
-use lib.Dec.{eqb}
-use borrow.Author.Tests.{ne-eqb, eqb-false}
 use Rattle.octets.specs.Parts.{putAt, up8}
-use Rattle.octets.specs.Numbers.{bytesOf}
-use Rattle.octets.specs.Scans.{Every, fails, isFlowCharacter}
-use Rattle.octets.proofs.Lists.{length-put, put-next, take-front, put-front}
-use Rattle.octets.proofs.Digits.{length-bytesOf}
+use Rattle.octets.specs.Scans.{fails, isFlowCharacter}
+use Rattle.octets.proofs.Lists.{length-put, take-front}
 use Rattle.octets.proofs.Every.{none-fails, every-passes, every-left, every-right, every-both}
 use Rattle.sff_format.specs.declared.Answer.{Answer}
 use Rattle.sff_format.specs.declared.Answer.the-variants.{Accepted, Refused}
-use Rattle.sff_format.specs.Rules.{declared, badIndex}
+use Rattle.sff_format.specs.Rules.{declared}
 use Rattle.sff_format.specs.Answer.{acceptedOr}
-use Rattle.sff_format.specs.Model.{Read, File, noIndex, layoutRead, layout, withReads}
+use Rattle.sff_format.specs.Model.{Read, File, noIndex, layoutRead, layout}
 use Rattle.sff_format.specs.Valid.{ValidRead, ValidReads, Valid}
 use Rattle.sff_format.specs.HeaderTest.{indexOffset, indexLength, readCount, flowCharacters}
 use Rattle.sff_format.specs.FileTest.{fileTest}
-use Rattle.sff_format.specs.Writing.{newFile, newTest, newOutcome, newBuffer, givenTest, openTest, appendTest, appendOutcome, appendBuffer, Left, appendEach, writeEach, Lent, AllLent}
+use Rattle.sff_format.specs.Writing.{newFile, newTest, newOutcome, newBuffer, givenTest, appendTest, appendOutcome, appendBuffer, Left, appendEach, writeEach, Lent, AllLent}
 use Rattle.sff_format.proofs.Answers.{first-ok, second-ok, both-ok, when-ok, ok-when, under-ok, ok-under, not-accepted}
 use Rattle.sff_format.proofs.Sizes.{length-header}
 use Rattle.sff_format.proofs.HeaderLaws.{offset-is, index-length-is, count-is, characters-are}
-use Rattle.sff_format.proofs.FileTaken.{header-first, file-taken}
-use Rattle.sff_format.proofs.Appended.{reads-append, layout-plain, appended}
-use Rattle.sff_format.proofs.Given.{or-left, or-right, given-valid, valid-given}
-
--- a file with no index
-abbrev pub plain : List ℕ → List ℕ → List Read → File
-plain characters key rs = withReads rs (newFile characters key)
-
-undeclared : declared 0 0 ≡ false
-unfolding declared
-undeclared = refl
-
--- it keeps the rules where its characters, their number, the count and the reads do
-pub plain-valid : (characters key : List ℕ) (rs : List Read) → Every isFlowCharacter (characters ++ key) → up8 (31 + length characters + length key) < 65536
-    → length rs < 4294967296 → ValidReads characters rs → Valid (plain characters key rs)
-unfolding badIndex declared
-plain-valid characters key rs c h n g = record {
-  characters-good = c;
-  header-fits = h;
-  count-fits = n;
-  index-fits = (omega arith, omega arith, tt);
-  index-good = refl;
-  index-met = λ e. absurd (let z : _≡_ {A = ℕ} 0 1 = cc in let a : ⊥ = omega arith in a);
-  reads-good = g;
-}
+use Rattle.sff_format.proofs.FileTaken.{header-first, file-taken, file-back}
+use Rattle.sff_format.proofs.Appended.{reads-append, layout-plain}
+use Rattle.sff_format.proofs.Written.{layout-bytes}
+use Rattle.sff_format.proofs.Appends.{plain, plain-valid, length-more, appended-in, carried, carried-out, append-done, append-left, append-valid, is-plain}
+use Rattle.sff_format.proofs.Given.{or-left, or-right, valid-given}
 
 valid-left : (characters : List ℕ) (us ws : List Read) → ValidReads characters (us ++ ws) → ValidReads characters us
 valid-left characters [] ws g = tt
@@ -64,59 +40,11 @@ valid-next characters (u ∷ us) r ws g = valid-next characters us r ws (g .1)
 abbrev written : List ℕ → File → Left
 written buffer f = record { outcome = record { answer = Accepted; length = length (layout f) }; buffer = putAt 0 (layout f) buffer }
 
-module _ (characters key : List ℕ) (us : List Read) where
-  -- the header alone has room for the count
-  header-room : 31 ≤ length (layout (plain characters key us))
-  header-room = rw (layout-plain (plain characters key us) refl, length-append, length-header (plain characters key us)) (omega arith)
-
-  valid-front : (ws : List Read) → Valid (plain characters key (us ++ ws)) → Valid (plain characters key us)
-  valid-front ws v =
-      let l : length (us ++ ws) ≡ length us + length ws = length-append us ws in
-      let n = v .count-fits in
-      plain-valid characters key us (v .characters-good) (v .header-fits) (omega (arith, l, n)) (valid-left characters us ws (v .reads-good))
-
-  module _ (r : Read) where
-    abbrev pub more : List ℕ
-    more = bytesOf 4 (length us + 1)
-
-    -- the file with one read more, as an append writes it
-    one-more : layout (plain characters key (us ++ (r ∷ []))) ≡ putAt 20 more (layout (plain characters key us) ++ layoutRead r)
-    one-more = appended (plain characters key us) r refl
-
-    room : 20 + length more ≤ length (layout (plain characters key us) ++ layoutRead r)
-    room = let h = header-room in rw (length-bytesOf, length-append) (omega arith)
-
-    pub length-more : length (layout (plain characters key (us ++ (r ∷ [])))) ≡ length (layout (plain characters key us)) + length (layoutRead r)
-    length-more = rw (one-more, length-put 20 more (layout (plain characters key us) ++ layoutRead r) room, length-append)
-
-    module _ (buffer : List ℕ) (fits : length (layout (plain characters key us)) ≤ length buffer) where
-      -- an append writes the file with one read more where the file stood
-      pub appended-in : putAt 20 more (putAt (length (layout (plain characters key us))) (layoutRead r) (putAt 0 (layout (plain characters key us)) buffer))
-          ≡ putAt 0 (layout (plain characters key (us ++ (r ∷ [])))) buffer
-      appended-in =
-          let L = layout (plain characters key us) in
-          let p : putAt (length L) (layoutRead r) (putAt 0 L buffer) ≡ putAt 0 (L ++ layoutRead r) buffer =
-          let z : 0 + length L ≡ length L = omega arith in rw z at (put-next 0 (length L) L (layoutRead r) buffer refl (omega arith)) in
-          rw (p, one-more) (put-front 20 more (L ++ layoutRead r) buffer room)
-
--- an append is carried out where no reason to refuse holds
-pub append-ok : (buffer : List ℕ) (len : ℕ) (r : Read) → len ≤ length buffer → fileTest (take len buffer) ≡ Accepted
-    → declared (indexOffset (take len buffer)) (indexLength (take len buffer)) ≡ false → eqb (readCount (take len buffer)) 4294967295 ≡ false
-    → givenTest (flowCharacters (take len buffer)) r ≡ Accepted → len + length (layoutRead r) ≤ length buffer → appendTest buffer len r ≡ Accepted
-unfolding appendTest openTest
-append-ok buffer len r h f i n g m =
-    both-ok _ _ (ok-under (length buffer) len _ _ h)
-    (both-ok _ _ (both-ok _ _ f (both-ok _ _ (ok-when _ _ _ i) (ok-when _ _ _ n))) (both-ok _ _ g (ok-under (length buffer) (len + length (layoutRead r)) _ _ m)))
-
-pub append-done : (buffer : List ℕ) (len : ℕ) (r : Read) → appendTest buffer len r ≡ Accepted
-    → appendOutcome buffer len r ≡ record { answer = Accepted; length = len + length (layoutRead r) }
-unfolding appendOutcome acceptedOr
-append-done buffer len r e = rw e
-
-pub append-left : (buffer : List ℕ) (len : ℕ) (r : Read) → appendTest buffer len r ≡ Accepted
-    → appendBuffer buffer len r ≡ putAt 20 (bytesOf 4 (readCount (take len buffer) + 1)) (putAt len (layoutRead r) buffer)
-unfolding appendBuffer acceptedOr
-append-left buffer len r e = rw e
+valid-front : (characters key : List ℕ) (us ws : List Read) → Valid (plain characters key (us ++ ws)) → Valid (plain characters key us)
+valid-front characters key us ws v =
+    let l : length (us ++ ws) ≡ length us + length ws = length-append us ws in
+    let n = v .count-fits in
+    plain-valid characters key us (v .characters-good) (v .header-fits) (omega (arith, l, n)) (valid-left characters us ws (v .reads-good))
 
 module _ (characters key buffer : List ℕ) (us : List Read) (r : Read) (v : Valid (plain characters key (us ++ (r ∷ []))))
     (fits : length (layout (plain characters key (us ++ (r ∷ [])))) ≤ length buffer) where
@@ -145,11 +73,12 @@ module _ (characters key buffer : List ℕ) (us : List Read) (r : Read) (v : Val
   counted = ap readCount front ∙ count-is (layout (plain characters key us)) (plain characters key us) good (header-first (plain characters key us) good)
 
   no-index : declared (indexOffset (take (length L) B)) (indexLength (take (length L) B)) ≡ false
+  unfolding declared
   no-index =
       let g = plain characters key us in
       let o : indexOffset (take (length (layout g)) B) ≡ 0 = ap indexOffset front ∙ offset-is (layout g) g good (header-first g good) in
       let l : indexLength (take (length (layout g)) B) ≡ 0 = ap indexLength front ∙ index-length-is (layout g) g good (header-first g good) in
-      rw (o, l) undeclared
+      rw (o, l)
 
   given : givenTest (flowCharacters (take (length L) B)) r ≡ Accepted
   given =
@@ -157,15 +86,16 @@ module _ (characters key buffer : List ℕ) (us : List Read) (r : Read) (v : Val
       let c : flowCharacters (take (length (layout g)) B) ≡ characters = ap flowCharacters front ∙ characters-are (layout g) g good (header-first g good) in
       rw c (valid-given characters r (valid-next characters us r [] (v .reads-good)))
 
-  below : eqb (readCount (take (length L) B)) 4294967295 ≡ false
-  below =
+  below : readCount (take (length L) B) ≡ 4294967295 → ⊥
+  below e =
       let n = v .count-fits in
       let l : length (us ++ (r ∷ [])) ≡ length us + 1 = length-append us (r ∷ []) in
-      rw counted (ne-eqb (length us) 4294967295 (λ e. let a : ⊥ = omega (arith, n, l, e) in a))
+      omega (arith, n, l, e, counted)
 
   accepted : appendTest B (length L) r ≡ Accepted
   accepted =
-      append-ok B (length L) r (rw whole (omega (arith, size))) (ap fileTest front ∙ file-taken f good) no-index below given (rw whole size)
+      carried-out B (length L) r
+      (record { stated = rw whole (omega (arith, size)); accepted = ap fileTest front ∙ file-taken f good; no-index = no-index; below = below; given = given; room = rw whole size })
 
   -- what an append leaves is the file with one read more
   next-outcome : appendOutcome B (length L) r ≡ record { answer = Accepted; length = length (layout (plain characters key (us ++ (r ∷ [])))) }
@@ -219,9 +149,6 @@ module _ (buffer characters key : List ℕ) (v : Valid (newFile characters key))
   new-buffer = rw new-accepted
 
 module _ (f : File) (e : f .index ≡ noIndex) where
-  pub is-plain : plain (f .flow-characters) (f .key) (f .reads) ≡ f
-  is-plain = λ j. record { flow-characters = f .flow-characters; key = f .key; index = sym e j; reads = f .reads }
-
   -- "Without one, a new file and an append for each read leave these bytes in any buffer that holds them"
   pub write-each : Valid f → (buffer : List ℕ) → length (layout f) ≤ length buffer
       → writeEach buffer f ≡ record { outcome = record { answer = Accepted; length = length (layout f) }; buffer = putAt 0 (layout f) buffer }
@@ -229,11 +156,11 @@ module _ (f : File) (e : f .index ≡ noIndex) where
   write-each v buffer h =
       let c = f .flow-characters in
       let k = f .key in
-      let w : Valid (plain c k (f .reads)) = rw is-plain v in
-      let l : length (layout (plain c k (f .reads))) ≤ length buffer = rw is-plain h in
+      let w : Valid (plain c k (f .reads)) = rw (is-plain f e) v in
+      let l : length (layout (plain c k (f .reads))) ≤ length buffer = rw (is-plain f e) h in
       let n = valid-front c k [] (f .reads) w in
       let m : length (layout (newFile c k)) ≤ length buffer = let a = layout-le c k [] (f .reads) in omega arith in
-      rw (new-outcome buffer c k n m, new-buffer buffer c k n m) (each-written c k buffer [] (f .reads) w l ∙ ap (written buffer) is-plain)
+      rw (new-outcome buffer c k n m, new-buffer buffer c k n m) (each-written c k buffer [] (f .reads) w l ∙ ap (written buffer) (is-plain f e))
 
 -- a writer that was refused stays so
 stays : (w : Left) (rs : List Read) (n p : ℕ) → w .outcome .answer ≡ Refused n p → appendEach w rs .outcome .answer ≡ Refused n p
@@ -249,45 +176,24 @@ new-refused : (buffer characters key : List ℕ) (n p : ℕ) → newTest (length
 unfolding newOutcome
 new-refused buffer characters key n p e = e
 
-pub valid-both : (characters : List ℕ) (us : List Read) (r : Read) → ValidReads characters us → ValidRead characters r → ValidReads characters (us ++ (r ∷ []))
-valid-both characters [] r g h = (h, tt)
-valid-both characters (u ∷ us) r g h = (g .0, valid-both characters us r (g .1) h)
-
 -- what an append that was carried out shows
 module _ (characters key buffer : List ℕ) (us : List Read) (r : Read) (v : Valid (plain characters key us)) (t : Lent r)
     (fits : length (layout (plain characters key us)) ≤ length buffer) where
-  abbrev old : List ℕ
-  old = layout (plain characters key us)
+  abbrev file : File
+  file = plain characters key us
 
-  module _ (a : appendTest (putAt 0 old buffer) (length old) r ≡ Accepted) where
-    stood : take (length old) (putAt 0 old buffer) ≡ old
-    stood = take-front old buffer
-
-    same : length (putAt 0 old buffer) ≡ length buffer
-    same = length-put 0 old buffer (omega arith)
+  module _ (a : appendTest (putAt 0 (layout file) buffer) (length (layout file)) r ≡ Accepted) where
+    stood : take (length (layout file)) (putAt 0 (layout file) buffer) ≡ layout file
+    stood = take-front (layout file) buffer
 
     fits-more : length (layout (plain characters key (us ++ (r ∷ [])))) ≤ length buffer
-    unfolding appendTest
     fits-more =
-        let m : length old + length (layoutRead r) ≤ length (putAt 0 old buffer) = under-ok _ _ _ _ (second-ok _ _ (second-ok _ _ (second-ok _ _ a))) in
-        rw (length-more characters key us r) (omega (arith, m, same))
-
-    below-limit : length us < 4294967295
-    unfolding appendTest openTest
-    below-limit =
-        let q : eqb (readCount (take (length old) (putAt 0 old buffer))) 4294967295 ≡ false = when-ok _ _ _ (second-ok _ _ (second-ok _ _ (first-ok _ _ (second-ok _ _ a)))) in
-        let c : readCount (take (length old) (putAt 0 old buffer)) ≡ length us = ap readCount stood ∙ count-is old (plain characters key us) v (header-first (plain characters key us) v) in
-        let n = v .count-fits in
-        let d : length us ≡ 4294967295 → ⊥ = λ z. eqb-false (length us) 4294967295 (rw c at q) z in
-        omega (arith, n, d)
+        let m = carried (putAt 0 (layout file) buffer) (length (layout file)) r a .room in
+        let l : length (putAt 0 (layout file) buffer) ≡ length buffer = length-put 0 (layout file) buffer (omega arith) in
+        rw (length-more characters key us r) (omega (arith, m, l))
 
     valid-more : Valid (plain characters key (us ++ (r ∷ [])))
-    unfolding appendTest
-    valid-more =
-        let c : flowCharacters (take (length old) (putAt 0 old buffer)) ≡ characters = ap flowCharacters stood ∙ characters-are old (plain characters key us) v (header-first (plain characters key us) v) in
-        let g : givenTest characters r ≡ Accepted = rw c at (first-ok _ _ (second-ok _ _ (second-ok _ _ a))) in
-        let l : length (us ++ (r ∷ [])) ≡ length us + 1 = length-append us (r ∷ []) in
-        plain-valid characters key (us ++ (r ∷ [])) (v .characters-good) (v .header-fits) (omega (arith, l, below-limit)) (valid-both characters us r (v .reads-good) (given-valid characters r t g))
+    valid-more = rw (stood, file-back file v) at (append-valid (putAt 0 (layout file) buffer) (length (layout file)) r (rw stood (layout-bytes file v)) a t)
 
 -- the file keeps the rules and fits the buffer
 abbrev Fits : List ℕ → File → Type 0

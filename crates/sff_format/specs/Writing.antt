@@ -102,17 +102,20 @@ pub record Left : Type 0 where
   pub outcome : Outcome
   pub buffer : List ℕ
 
+abbrev pub newIn : List ℕ → List ℕ → List ℕ → Left
+newIn buffer flow-characters key = record { outcome = newOutcome buffer flow-characters key; buffer = newBuffer buffer flow-characters key }
+
+abbrev pub appendTo : Left → Read → Left
+appendTo w r = record { outcome = appendOutcome (w .buffer) (w .outcome .length) r; buffer = appendBuffer (w .buffer) (w .outcome .length) r }
+
 -- an append for each read, up to one that is refused
 unfoldable pub appendEach : Left → List Read → Left
 appendEach w [] = w
-appendEach w (r ∷ rs) =
-    let n = w .outcome .length in
-    acceptedOr (w .outcome .answer) (appendEach (record { outcome = appendOutcome (w .buffer) n r; buffer = appendBuffer (w .buffer) n r }) rs) w
+appendEach w (r ∷ rs) = acceptedOr (w .outcome .answer) (appendEach (appendTo w r) rs) w
 
 -- "a new file and an append for each read"
 unfoldable pub writeEach : List ℕ → File → Left
-writeEach buffer f =
-    appendEach (record { outcome = newOutcome buffer (f .flow-characters) (f .key); buffer = newBuffer buffer (f .flow-characters) (f .key) }) (f .reads)
+writeEach buffer f = appendEach (newIn buffer (f .flow-characters) (f .key)) (f .reads)
 
 -- an accepted file with these flow characters that holds the read
 pub record Holder (characters : List ℕ) (r : Read) : Type 0 where

@@ -4,8 +4,8 @@ use mathlib.Core.Path.{_≡_, refl, ap, _∙_}
 use mathlib.Core.List.{List, _++_, append-nil}
 use native.Mathlib.Nat.{zero-add}
 use native.Mathlib.Omega.{arith}
-use lib.ListN.{length, replicate, length-append, length-replicate}
-use Rattle.octets.specs.Parts.{putAt, up8, filled}
+use lib.ListN.{length, replicate, length-append}
+use Rattle.octets.specs.Parts.{putAt, up8}
 use Rattle.octets.specs.Numbers.{fields}
 use Rattle.octets.proofs.Lists.{put-next}
 use Rattle.octets.proofs.Inserts.{insert-zero}
@@ -25,10 +25,6 @@ module _ (name : List ℕ) (clips : Clips) (values increments bases qualities : 
   pub data-section : layoutReadData (readOf name clips values increments bases qualities) ≡ dataSection values increments bases qualities
   unfolding layoutReadData dataSection
   data-section = refl
-
-pub length-section : (name : List ℕ) (bases : ℕ) (clips : Clips) → length (headerSection name bases clips) ≡ up8 (16 + length name)
-unfolding headerSection sectionFields clipFields filled
-length-section name bases clips = simp (length-append, length-replicate, length-fields) (omega arith)
 
 pub length-read : (r : Read) (F N : ℕ) → length (r .values) ≡ F → length (r .increments) ≡ N → length (r .bases) ≡ N → length (r .qualities) ≡ N →
     length (layoutRead r) ≡ up8 (16 + length (r .name)) + up8 (2 * F + 3 * N)

@@ -73,7 +73,7 @@ fn put_section_fields(s: &mut [u8], at: usize, name_length: usize, bases: usize,
 // Puts the header section of a read of so many bases at `at`.
 pub fn put_read_header(s: &mut [u8], at: usize, name: &[u8], bases: usize, clips: Clips)
     requires { ⌜ at + up8 (16 + length (now name)) ≤ length (now s) ⌝ }
-    requires { ⌜ (length (now name) ≤ 65512) × (bases < 4294967296) ⌝ }
+    requires { ⌜ length (now name) ≤ 65512 ⌝ }
     ensures { λ _. ⌜ now (s .exit) ≡ putAt at (headerSection (now (name .entry)) bases clips) (now (s .entry)) ⌝ }
 {
     put_section_fields(s, at, name.len(), bases, clips);
@@ -115,7 +115,7 @@ pub fn put_read(
     qualities: &[u8],
 )
     requires { ⌜ at + (up8 (16 + length (now name)) + up8 (2 * length (now values) + 3 * length (now bases))) ≤ length (now s) ⌝ }
-    requires { ⌜ (length (now name) ≤ 65512) × (length (now bases) < 4294967296) ⌝ }
+    requires { ⌜ length (now name) ≤ 65512 ⌝ }
     requires { ⌜ (length (now increments) ≡ length (now bases)) × (length (now qualities) ≡ length (now bases)) ⌝ }
     ensures { λ _. ⌜ now (s .exit) ≡ putAt at (layoutRead (readOf (now (name .entry)) clips (now (values .entry)) (now (increments .entry)) (now (bases .entry)) (now (qualities .entry)))) (now (s .entry)) ⌝ }
 {

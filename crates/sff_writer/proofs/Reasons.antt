@@ -27,6 +27,7 @@ use Rattle.sff_format.proofs.Answers.{first-ok, second-ok, when-ok, under-ok}
 use Rattle.sff_format.proofs.HeaderLaws.{fits-31}
 use Rattle.sff_format.proofs.FileLaid.{head-ok}
 use Rattle.sff_format.proofs.Given.{counts-ok}
+use Rattle.sff_format.proofs.Appends.{Carried, carried}
 use Rattle.sff.proofs.Sections.{characters-fit}
 use Rattle.sff_sections.proofs.Sections.{length-read, length-new}
 
@@ -194,48 +195,35 @@ module _ (buffer : List ℕ) (len : ℕ) (r : Read) {a : Answer} (e : a ≡ appe
   append-refused t = (rw (← e, t), rw (← e, t))
 
   module _ (t : a ≡ Accepted) where
-    stated : len ≤ length buffer
-    unfolding appendTest
-    stated = under-ok _ _ _ _ (first-ok _ _ (sym e ∙ t))
-
-    opened : openTest (take len buffer) ≡ Accepted
-    unfolding appendTest
-    opened = first-ok _ _ (second-ok _ _ (sym e ∙ t))
-
-    given : givenTest (flowCharacters (take len buffer)) r ≡ Accepted
-    unfolding appendTest
-    given = first-ok _ _ (second-ok _ _ (second-ok _ _ (sym e ∙ t)))
-
-    room : len + length (layoutRead r) ≤ length buffer
-    unfolding appendTest
-    room = under-ok _ _ _ _ (second-ok _ _ (second-ok _ _ (second-ok _ _ (sym e ∙ t))))
+    c : Carried buffer len r
+    c = carried buffer len r (sym e ∙ t)
 
     sized : up8 (16 + length (r .name)) + up8 (2 * length (r .values) + 3 * length (r .bases)) ≡ length (layoutRead r)
-    sized = given-size (flowCharacters (take len buffer)) r refl given refl
+    sized = given-size (flowCharacters (take len buffer)) r refl (c .given) refl
 
     -- the file has the count, and there is room for the read
     pub append-file-fits : (24 ≤ len) × (len ≤ length buffer)
     append-file-fits =
-        let h = open-header (take len buffer) refl opened in
-        let l = length-take-le len buffer stated in
-        (omega (arith, h, l), stated)
+        let h = fits-31 (take len buffer) (head-ok (take len buffer) (c .accepted)) in
+        let l = length-take-le len buffer (c .stated) in
+        (omega (arith, h, l), c .stated)
 
     pub append-read-fits : len + (up8 (16 + length (r .name)) + up8 (2 * length (r .values) + 3 * length (r .bases))) ≤ length buffer
-    append-read-fits = rw sized room
+    append-read-fits = rw sized (c .room)
 
     pub append-end : {z : ℕ} → z ≡ up8 (16 + length (r .name)) + up8 (2 * length (r .values) + 3 * length (r .bases)) → len + z ≤ length buffer
-    append-end f = rw (f, sized) room
+    append-end f = rw (f, sized) (c .room)
 
     pub append-name-fits : length (r .name) ≤ 65512
-    append-name-fits = given-name (flowCharacters (take len buffer)) r refl given
+    append-name-fits = given-name (flowCharacters (take len buffer)) r refl (c .given)
 
     pub append-counts : (length (r .increments) ≡ length (r .bases)) × (length (r .qualities) ≡ length (r .bases)) × (length (r .bases) < 4294967296)
-    append-counts = let k = given-counts (flowCharacters (take len buffer)) r refl given in (k .1, k .2, k .3)
+    append-counts = let k = given-counts (flowCharacters (take len buffer)) r refl (c .given) in (k .1, k .2, k .3)
 
     pub append-values : Bytes buffer → length (r .values) < 65536
     append-values y =
-        let k = given-counts (flowCharacters (take len buffer)) r refl given in
-        let h = open-header (take len buffer) refl opened in
+        let k = given-counts (flowCharacters (take len buffer)) r refl (c .given) in
+        let h = fits-31 (take len buffer) (head-ok (take len buffer) (c .accepted)) in
         let l = length-take (flows (take len buffer)) (drop 31 (take len buffer)) in
         let f : flows (take len buffer) < 65536 = number-small 2 28 (take len buffer) (bytes-take len buffer y) (omega arith) in
         omega (arith, k .0, l, f)

@@ -34,7 +34,7 @@ append-spec =
     let n = a .file-length in
     let r = readOf (a .name .now) (a .clips) (a .values .now) (a .increments .now) (a .bases .now) (a .qualities .now) in
     let k = append-counts b n r (c .before .before .before .before .before .append-test .ensures) (c .before .before .before .enum-told .given .1) in
-    (append-read-fits b n r (c .before .before .before .before .before .append-test .ensures) (c .before .before .before .enum-told .given .1), ((append-name-fits b n r (c .before .before .before .before .before .append-test .ensures) (c .before .before .before .enum-told .given .1), k .2), (k .0, k .1))))
+    (append-read-fits b n r (c .before .before .before .before .before .append-test .ensures) (c .before .before .before .enum-told .given .1), (append-name-fits b n r (c .before .before .before .before .before .append-test .ensures) (c .before .before .before .enum-told .given .1), (k .0, k .1))))
     (λ c. search needs)
     (λ c κs.
     let a = c .before .before .before .before .before .before .before .before .before .before .before .before .before .before .before .before .before .args in

@@ -59,16 +59,16 @@ pub extern "C" fn h_test(file: &[u8], place: &mut u64) -> u64
 }
 
 // What a step leaves, as numbers.
-pub struct Stepped {
-    pub number: u64,
-    pub place: u64,
-    pub at: u64,
-    pub passed: u64,
-    pub index_passed: u64,
-    pub read_start: u64,
-    pub name_length: u64,
-    pub bases: u64,
-    pub clips: u64,
+struct Stepped {
+    number: u64,
+    place: u64,
+    at: u64,
+    passed: u64,
+    index_passed: u64,
+    read_start: u64,
+    name_length: u64,
+    bases: u64,
+    clips: u64,
 }
 
 fn flag_of(x: bool) -> u64

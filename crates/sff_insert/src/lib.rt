@@ -18,8 +18,8 @@ pub struct InsertEnds {
 pub fn insert(file: &[u8], position: usize) -> &[u8]
     ensures { λ r. ⌜ now r ≡ fileInsert (now (file .entry)) position ⌝ }
 {
-    let test = position_test(file, position);
-    let Answer::Accepted = test else {
+    let answer = position_test(file, position);
+    let Answer::Accepted = answer else {
         return &file[..0];
     };
     sff_view::insert(view_of(file, position), file)

@@ -34,6 +34,14 @@ filled n xs = xs ++ replicate (n - length xs) 0
 abbrev pub padded : List ℕ → List ℕ
 padded xs = filled (up8 (length xs)) xs
 
+-- a buffer with the file `new` at its front, zeros up to place m, and from there on as it was
+unfoldable pub settled : List ℕ → ℕ → List ℕ → List ℕ
+settled new m buffer = filled m new ++ drop m buffer
+
+-- a buffer whose first `end` bytes are a file, with xs in the place of the file's n bytes from place `at` on: what follows them is moved, and what is freed is zero
+unfoldable pub spliced : ℕ → ℕ → ℕ → List ℕ → List ℕ → List ℕ
+spliced at n end xs buffer = putAt at (xs ++ (part (at + n) (end - (at + n)) buffer ++ replicate (n - length xs) 0)) buffer
+
 -- xs stands in b at place p
 abbrev pub Stands : ℕ → List ℕ → List ℕ → Type 0
 Stands p xs b = part p (length xs) b ≡ xs

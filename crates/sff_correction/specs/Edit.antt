@@ -1,10 +1,9 @@
 -- "A correction gives its read the new clips or name, or leaves it out". Assumes nothing: these are definitions.
-use Prim.Native.Nat.{ℕ, suc}
+use Prim.Native.Nat.{ℕ}
 use mathlib.Core.Bool.{cond}
-use mathlib.Core.List.{List, [], _∷_, _++_}
-use lib.ListN.{take, drop}
+use mathlib.Core.List.{List, [], _∷_}
 use Rattle.sff_format.specs.Model.{Read, File, withReads}
-use Rattle.sff_format.specs.Places.{readAt}
+use Rattle.sff_format.specs.Places.{readAt, replaced}
 use Rattle.sff_correction.specs.Record.{position, newQualityLeft, newQualityRight, newAdapterLeft, newAdapterRight, newName, isClips, isRename}
 
 -- the read with the new clips
@@ -45,4 +44,4 @@ target r f = readAt f (position r)
 
 -- the file as the record, carried out, leaves it: header, index and all other reads as they were
 unfoldable pub edited : List ℕ → File → File
-edited r f = withReads (take (position r) (f .reads) ++ instead r (target r f) ++ drop (suc (position r)) (f .reads)) f
+edited r f = withReads (replaced (position r) (instead r (target r f)) (f .reads)) f

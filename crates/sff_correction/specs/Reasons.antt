@@ -1,8 +1,8 @@
 -- The reasons not to carry out a well-formed record, on the file that it is for. Assumes nothing: these are definitions.
-use Prim.Native.Nat.{ℕ, suc}
+use Prim.Native.Nat.{ℕ}
 use mathlib.Core.Bool.{Bool, true, false, not, _&&_, _||_}
-use mathlib.Core.List.{List, [], _∷_, _++_}
-use lib.ListN.{length, take, drop}
+use mathlib.Core.List.{List, [], _∷_}
+use lib.ListN.{length}
 use lib.Dec.{ltb}
 use Rattle.octets.specs.Parts.{same}
 use Rattle.sff_format.specs.declared.Answer.{Answer}
@@ -10,6 +10,7 @@ use Rattle.sff_format.specs.Answer.{when, acceptedOr, _then_}
 use Rattle.sff_format.specs.Rules.{declared}
 use Rattle.sff_format.specs.Model.{Read, File, layout}
 use Rattle.sff_format.specs.ReadTest.{clipTest}
+use Rattle.sff_format.specs.Places.{replaced}
 use Rattle.sff_correction.specs.Record.{position, newQualityLeft, newQualityRight, newAdapterLeft, newAdapterRight, oldName, newName, isClips, isRename}
 use Rattle.sff_correction.specs.Edit.{target, edited}
 
@@ -19,7 +20,7 @@ clipsAbove n r = acceptedOr (clipTest 0 n (newQualityLeft r) (newQualityRight r)
 
 -- the reads at other positions
 abbrev pub others : List ℕ → File → List Read
-others r f = take (position r) (f .reads) ++ drop (suc (position r)) (f .reads)
+others r f = replaced (position r) [] (f .reads)
 
 -- one of the reads has the name
 unfoldable pub bears : List ℕ → List Read → Bool

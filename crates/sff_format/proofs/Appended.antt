@@ -51,6 +51,11 @@ left-20 : (f : File) → length (countLeft f) ≡ 20
 unfolding countLeft
 left-20 f = length-fields _
 
+-- as many reads, the same header
+pub header-same : (f : File) (rs : List Read) → length rs ≡ length (f .reads) → layoutHeader (withReads rs f) ≡ layoutHeader f
+unfolding layoutHeader headerFields
+header-same f rs e = rw e
+
 pub header-count : (f : File) (rs : List Read) (tail : List ℕ) → layoutHeader (withReads rs f) ++ tail ≡ putAt 20 (bytesOf 4 (length rs)) (layoutHeader f ++ tail)
 header-count f rs tail =
     let o : length (bytesOf 4 (length rs)) ≡ length (bytesOf 4 (length (f .reads))) = rw (length-bytesOf, length-bytesOf) in

@@ -4,10 +4,10 @@ use mathlib.Core.Path.{_≡_, refl, sym, ap, _∙_}
 use mathlib.Core.Bool.{false}
 use mathlib.Core.List.{List, [], _∷_, _++_}
 use native.Mathlib.Omega.{arith}
-use lib.ListN.{length, take, length-append}
+use lib.ListN.{length, take, length-append, take-append-drop}
 use borrow.Author.Tests.{ne-eqb, eqb-false}
-use Rattle.octets.specs.Parts.{putAt, up8}
-use Rattle.octets.specs.Numbers.{bytesOf}
+use Rattle.octets.specs.Parts.{putAt, up8, part}
+use Rattle.octets.specs.Numbers.{bytesOf, Bytes}
 use Rattle.octets.specs.Scans.{Every, isFlowCharacter}
 use Rattle.octets.proofs.Lists.{length-put, put-next, put-front}
 use Rattle.octets.proofs.Digits.{length-bytesOf}
@@ -15,34 +15,19 @@ use Rattle.sff_format.specs.declared.Answer.the-variants.{Accepted}
 use Rattle.sff_format.specs.Rules.{declared, badIndex}
 use Rattle.sff_format.specs.Answer.{acceptedOr}
 use Rattle.sff_format.specs.Model.{Read, File, noIndex, layoutRead, layout, withReads}
-use Rattle.sff_format.specs.Valid.{ValidRead, ValidReads, Valid}
-use Rattle.sff_format.specs.HeaderTest.{indexOffset, indexLength, readCount, flowCharacters}
+use Rattle.sff_format.specs.Valid.{ValidReads, Valid}
+use Rattle.sff_format.specs.HeaderTest.{indexOffset, indexLength, readCount, flowCharacters, headerLength, keyCharacters}
 use Rattle.sff_format.specs.FileTest.{fileTest}
 use Rattle.sff_format.specs.Writing.{newFile, givenTest, openTest, appendTest, appendOutcome, appendBuffer, Lent}
 use Rattle.sff_format.proofs.Answers.{first-ok, second-ok, both-ok, when-ok, ok-when, under-ok, ok-under}
 use Rattle.sff_format.proofs.Sizes.{length-header}
 use Rattle.sff_format.proofs.Appended.{layout-plain, appended}
 use Rattle.sff_format.proofs.Given.{given-valid}
-use Prim.Native.Nat.{ℕ, _+_, _≤_}
-use mathlib.Core.Path.{_≡_, sym, ap, _∙_}
-use mathlib.Core.Bool.{false}
-use mathlib.Core.List.{List, [], _∷_, _++_}
-use lib.ListN.{length, take, length-append, take-append-drop}
-use borrow.Author.Tests.{eqb-false}
 use lib.Seq.{length-take-le}
-use Rattle.octets.specs.Parts.{part, putAt}
-use Rattle.octets.specs.Numbers.{Bytes}
-use Rattle.sff_format.specs.declared.Answer.the-variants.{Accepted}
-use Rattle.sff_format.specs.Rules.{declared}
-use Rattle.sff_format.specs.Model.{Read, File, noIndex, layout, withReads}
-use Rattle.sff_format.specs.Valid.{Valid}
-use Rattle.sff_format.specs.HeaderTest.{indexOffset, indexLength, readCount, headerLength, flowCharacters, keyCharacters}
 use Rattle.sff_format.specs.Parse.{parse}
-use Rattle.sff_format.specs.Writing.{givenTest, openTest, appendTest, appendBuffer, Lent}
-use Rattle.sff_format.proofs.Answers.{first-ok, second-ok, when-ok, under-ok}
 use Rattle.sff_format.proofs.Boundaries.{undeclared}
 use Rattle.sff_format.proofs.FileLaid.{length-parsed, file-laid, file-valid}
-use Rattle.sff_format.proofs.Given.{given-valid}
+use Rattle.sff_format.proofs.Keeps.{valid-append}
 
 -- a file with no index
 abbrev pub plain : List ℕ → List ℕ → List Read → File
@@ -61,10 +46,6 @@ plain-valid characters key rs c h n g = record {
   index-met = λ e. absurd (let z : _≡_ {A = ℕ} 0 1 = cc in let a : ⊥ = omega arith in a);
   reads-good = g;
 }
-
-pub valid-both : (characters : List ℕ) (us : List Read) (r : Read) → ValidReads characters us → ValidRead characters r → ValidReads characters (us ++ (r ∷ []))
-valid-both characters [] r g h = (h, tt)
-valid-both characters (u ∷ us) r g h = (g .0, valid-both characters us r (g .1) h)
 
 pub is-plain : (f : File) → f .index ≡ noIndex → plain (f .flow-characters) (f .key) (f .reads) ≡ f
 is-plain f e = λ j. record { flow-characters = f .flow-characters; key = f .key; index = sym e j; reads = f .reads }
@@ -188,4 +169,4 @@ module _ (buffer : List ℕ) (len : ℕ) (r : Read) (y : Bytes (take len buffer)
       let l : length (parse old .reads ++ (r ∷ [])) ≡ length (parse old .reads) + 1 = length-append (parse old .reads) (r ∷ []) in
       rw same-model
       (plain-valid (flowCharacters old) (keyCharacters old) (parse old .reads ++ (r ∷ [])) (v .characters-good) (v .header-fits) (omega (arith, n, l, counted, b))
-      (valid-both (flowCharacters old) (parse old .reads) r (v .reads-good) (given-valid (flowCharacters old) r t (c .given))))
+      (valid-append (flowCharacters old) (parse old .reads) (r ∷ []) (v .reads-good) (given-valid (flowCharacters old) r t (c .given), tt)))

@@ -1,34 +1,29 @@
 -- A read that is lent is refused exactly if no accepted file could hold it. Assumes nothing.
-use Prim.Native.Nat.{ℕ, zero, suc, _+_, _≤_, _<_}
+use Prim.Native.Nat.{ℕ, _+_, _≤_, _<_}
 use mathlib.Core.Path.{_≡_, ap}
 use mathlib.Core.Bool.{false}
 use mathlib.Core.Logic.{_↔_}
 use mathlib.Core.List.{List, [], _∷_}
 use native.Mathlib.Omega.{arith}
-use lib.ListN.{length, take, getD}
+use lib.ListN.{length, take}
 use Rattle.octets.specs.Numbers.{Bytes}
 use Rattle.octets.proofs.AllBytes.{bytes-take}
 use Rattle.sff_format.specs.declared.Answer.the-variants.{Accepted}
 use Rattle.sff_format.specs.Rules.{declared}
 use Rattle.sff_format.specs.Model.{Read, File, layoutRead, layout}
-use Rattle.sff_format.specs.Valid.{ValidRead, ValidReads, Valid}
+use Rattle.sff_format.specs.Valid.{ValidRead, Valid}
 use Rattle.sff_format.specs.HeaderTest.{indexOffset, indexLength, readCount, flowCharacters}
 use Rattle.sff_format.specs.FileTest.{fileTest}
 use Rattle.sff_format.specs.Parse.{parse}
-use Rattle.sff_format.specs.Places.{noRead, readAt}
+use Rattle.sff_format.specs.Places.{readAt}
 use Rattle.sff_format.specs.Writing.{givenTest, appendTest, Holder, Lent}
 use Rattle.sff_format.proofs.HeaderLaws.{count-is, characters-are}
 use Rattle.sff_format.proofs.FileLaid.{length-parsed, file-valid}
 use Rattle.sff_format.proofs.FileTaken.{header-first, file-taken, file-back}
 use Rattle.sff_format.proofs.Written.{layout-bytes}
+use Rattle.sff_format.proofs.Keeps.{valid-at}
 use Rattle.sff_format.proofs.Given.{given-valid, valid-given}
 use Rattle.sff_format.proofs.Appends.{plain, plain-valid, carried, carried-out}
-
--- each of the reads that keep the rules does
-valid-at : (characters : List ℕ) (rs : List Read) (i : ℕ) → i < length rs → ValidReads characters rs → ValidRead characters (getD rs i noRead)
-valid-at characters [] i h g = absurd (let a : ⊥ = omega arith in a)
-valid-at characters (r ∷ rs) zero h g = g .0
-valid-at characters (r ∷ rs) (suc i) h g = valid-at characters rs i (omega arith) (g .1)
 
 module _ (characters : List ℕ) (r : Read) where
   -- a read that an accepted file holds keeps the rules of its flow characters

@@ -13,6 +13,8 @@ pub mod FileLaid
 pub mod FileTaken
 pub mod Written
 pub mod Format
+-- A file that keeps the rules with another read in the place of one.
+pub mod Keeps
 -- A file at a read; what is handed out of a read, and its insert; a read by its position; reading on.
 pub mod Split
 pub mod Places

@@ -1,33 +1,35 @@
--- Where a walk over the bytes finds read i is where the layout has it. Assumes nothing.
+-- Where a walk over the bytes finds read i is where the layout has it; an accepted file at read i. Assumes nothing.
 use Prim.Native.Nat.{ℕ, zero, suc, _+_, _≤_, _<_}
 use mathlib.Core.Path.{_≡_, refl, sym, ap, _∙_}
 use mathlib.Core.Bool.{Bool, true, false, cond}
-use mathlib.Core.List.{List, _++_}
+use mathlib.Core.Logic.{_⊎_}
+use mathlib.Core.List.{List, [], _∷_, _++_}
 use native.Mathlib.Omega.{arith}
 use native.Mathlib.Nat.{add-zero}
 use lib.ListN.{length, take, drop, getD, length-append}
 use lib.Seq.{take-at, drop-at}
 use lib.Dec.{leb, eqb}
 use borrow.Author.Tests.{eqb-true, eqb-false, le-leb, lt-leb}
-use Rattle.octets.specs.Numbers.{Bytes}
+use Rattle.octets.specs.Parts.{putAt}
+use Rattle.octets.specs.Numbers.{Bytes, bytesOf}
 use Rattle.octets.proofs.Lists.{length-part}
 use Rattle.octets.proofs.Inserts.{drop-rest}
 use Rattle.sff_format.specs.declared.Answer.the-variants.{Accepted}
 use Rattle.sff_format.specs.Answer.{_then_}
-use Rattle.sff_format.specs.Model.{layoutRead, layoutReads, layoutIndex}
+use Rattle.sff_format.specs.Model.{Read, noIndex, layoutRead, layoutReads, layoutIndex, layout, withReads}
 use Rattle.sff_format.specs.Rules.{declared, indexSize}
 use Rattle.sff_format.specs.HeaderTest.{indexOffset, indexLength, readCount, headerLength, flows, flowCharacters, headerTest}
 use Rattle.sff_format.specs.ReadTest.{readTest, readEnd}
 use Rattle.sff_format.specs.FileTest.{indexHere, passTest, boundaryTest, fileTest}
 use Rattle.sff_format.specs.Parse.{parseRead, parseReads, parse}
-use Rattle.sff_format.specs.Places.{noRead, readAt, place, placeFrom, readPlace}
+use Rattle.sff_format.specs.Places.{noRead, readAt, replaced, place, placeFrom, readPlace}
 use Rattle.sff_format.proofs.Answers.{first-ok, second-ok}
 use Rattle.sff_format.proofs.Sizes.{size-none}
 use Rattle.sff_format.proofs.HeaderLaws.{header-fits}
 use Rattle.sff_format.proofs.Boundaries.{Done, undeclared, here-done, here-not, here-is, boundary-read, boundary-index, parse-read, parse-index, place-here, place-read, place-index}
 use Rattle.sff_format.proofs.FileLaid.{ends, done, here-read, here-next, pending-laid, head-ok, sections-ok, header-size, index-passed, length-parsed, file-laid, file-valid}
 use Rattle.sff_format.proofs.Indexes.{indexOf, pass-fits, index-laid}
-use Rattle.sff_format.proofs.Split.{split}
+use Rattle.sff_format.proofs.Split.{Split, split}
 
 -- the read that is parsed at position i is the one at the place that the walk finds
 parse-at : (b : List ℕ) (n i p : ℕ) (q : Bool) → i < n → getD (parseReads b n p q) i noRead ≡ parseRead (flows b) b (placeFrom b i p q)
@@ -115,15 +117,46 @@ module _ (b : List ℕ) (y : Bytes b) (e : fileTest b ≡ Accepted) (i : ℕ) (h
   unfolding parse readPlace place
   place-found = rw index-size (found (declared (indexOffset b) (indexLength b)) refl _ (ap (λ (n : ℕ). n + length (layoutReads (take i (parseReads b (readCount b) (headerLength b) false)))) (header-size b y e)))
 
+  pub reads-counted : length (parse b .reads) ≡ readCount b
+  unfolding parse
+  reads-counted = length-parsed b (readCount b) (headerLength b) false
+
+  at : Split (parse b) i
+  at = split (parse b) i (rw reads-counted h) (file-valid b y e)
+
+  own : List ℕ
+  own = layoutRead (readAt (parse b) i)
+
+  is : b ≡ at .front ++ (own ++ at .back)
+  unfolding own
+  is = sym (file-laid b y e) ∙ at .is
+
+  front-size : length (at .front) ≡ readPlace b i
+  front-size = at .size ∙ sym place-found
+
+  front-is : take (readPlace b i) b ≡ at .front
+  front-is = ap (take (readPlace b i)) is ∙ take-at (at .front) (own ++ at .back) (readPlace b i) front-size
+
+  rest-is : drop (readPlace b i) b ≡ own ++ at .back
+  rest-is = ap (drop (readPlace b i)) is ∙ drop-at (at .front) (own ++ at .back) (readPlace b i) front-size
+
+  back-is : drop (readPlace b i + length (layoutRead (readAt (parse b) i))) b ≡ at .back
+  unfolding own
+  back-is = drop-rest (readPlace b i) own (at .back) b rest-is
+
   -- an accepted file at read i: what stands before it, its sections, and what stands after
   pub read-split : b ≡ take (readPlace b i) b ++ (layoutRead (readAt (parse b) i) ++ drop (readPlace b i + length (layoutRead (readAt (parse b) i))) b)
-  unfolding parse
-  read-split =
-      let v : List ℕ = layoutRead (readAt (parse b) i) in
-      let s = split (parse b) i (rw (length-parsed b (readCount b) (headerLength b) false) h) (file-valid b y e) in
-      let is : b ≡ s .front ++ (v ++ s .back) = sym (file-laid b y e) ∙ s .is in
-      let p : length (s .front) ≡ readPlace b i = s .size ∙ sym place-found in
-      let front : take (readPlace b i) b ≡ s .front = ap (take (readPlace b i)) is ∙ take-at (s .front) (v ++ s .back) (readPlace b i) p in
-      let rest : drop (readPlace b i) b ≡ v ++ s .back = ap (drop (readPlace b i)) is ∙ drop-at (s .front) (v ++ s .back) (readPlace b i) p in
-      let back : drop (readPlace b i + length v) b ≡ s .back = drop-rest (readPlace b i) v (s .back) b rest in
-      rw (front, back) is
+  unfolding own
+  read-split = rw (front-is, back-is) is
+
+  -- a read of the same size in its place, or any where there is no index: what stands before and after it stays
+  pub read-changed : (r : Read) → (length (layoutRead r) ≡ length (layoutRead (readAt (parse b) i))) ⊎ (parse b .index ≡ noIndex)
+      → layout (withReads (replaced i (r ∷ []) (parse b .reads)) (parse b))
+      ≡ take (readPlace b i) b ++ (layoutRead r ++ drop (readPlace b i + length (layoutRead (readAt (parse b) i))) b)
+  read-changed r s = rw (front-is, back-is) (at .changed r s)
+
+  -- the read left out, and counted no more
+  pub read-gone : parse b .index ≡ noIndex
+      → layout (withReads (replaced i [] (parse b .reads)) (parse b))
+      ≡ putAt 20 (bytesOf 4 (length (replaced i [] (parse b .reads)))) (take (readPlace b i) b ++ drop (readPlace b i + length (layoutRead (readAt (parse b) i))) b)
+  read-gone n = rw (front-is, back-is) (at .gone n)

@@ -1,20 +1,24 @@
--- A file splits at each read into what stands before it, its sections and what stands after; its place is a sum of sizes. Assumes nothing.
+-- A file splits at each read into what stands before it, its sections and what stands after; its place is a sum of sizes, and front and back stay where another read comes
+-- in its place. Assumes nothing.
 use Prim.Native.Nat.{ℕ, suc, _+_, _-_, _≤_, _<_}
 use mathlib.Core.Path.{_≡_, refl, sym, ap, _∙_}
 use mathlib.Core.Bool.{Bool, true, false, cond}
-use mathlib.Core.List.{List, _++_, append-assoc, append-nil}
+use mathlib.Core.Logic.{_⊎_, ⊎-elim}
+use mathlib.Core.List.{List, [], _∷_, _++_, append-assoc, append-nil}
 use native.Mathlib.Omega.{arith}
-use lib.ListN.{length, take, drop, length-append, take-append-drop}
+use lib.ListN.{length, take, drop, length-append, length-take, length-drop, take-append-drop}
 use lib.Seq.{take-take, take-suc, drop-cons}
 use lib.Dec.{leb}
 use borrow.Author.Tests.{leb-true, leb-false, le-leb, lt-leb}
-use Rattle.octets.specs.Parts.{insertAt}
-use Rattle.octets.proofs.Inserts.{insert-left, insert-right, length-insert}
-use Rattle.sff_format.specs.Model.{Read, File, layoutRead, layoutReads, layoutHeader, layoutIndex, layout}
+use Rattle.octets.specs.Parts.{putAt, insertAt}
+use Rattle.octets.specs.Numbers.{bytesOf}
+use Rattle.octets.proofs.Inserts.{insert-zero, insert-left, insert-right, length-insert}
+use Rattle.sff_format.specs.Model.{Read, Index, File, noIndex, layoutRead, layoutReads, layoutHeader, layoutIndex, layout, withReads}
 use Rattle.sff_format.specs.Rules.{declared}
 use Rattle.sff_format.specs.Valid.{Valid}
-use Rattle.sff_format.specs.Places.{noRead, readAt, place}
-use Rattle.sff_format.proofs.Appended.{reads-append}
+use Rattle.sff_format.specs.Places.{noRead, readAt, replaced, place}
+use Rattle.sff_format.proofs.Sizes.{layout-none}
+use Rattle.sff_format.proofs.Appended.{reads-append, header-same, header-count, layout-plain}
 use Rattle.sff_format.proofs.Boundaries.{undeclared}
 use Rattle.sff_format.proofs.FileTaken.{front-le, read-some}
 
@@ -27,6 +31,11 @@ pub record Split (f : File) (i : ℕ) : Type 0 where
   pub back : List ℕ
   pub size : length front ≡ place f i
   pub is : layout f ≡ front ++ (layoutRead (readAt f i) ++ back)
+  -- a read of the same size in its place, or any where there is no index
+  pub changed : (r : Read) → (length (layoutRead r) ≡ length (layoutRead (readAt f i))) ⊎ (f .index ≡ noIndex)
+      → layout (withReads (replaced i (r ∷ []) (f .reads)) f) ≡ front ++ (layoutRead r ++ back)
+  -- the read left out
+  pub gone : f .index ≡ noIndex → layout (withReads (replaced i [] (f .reads)) f) ≡ putAt 20 (bytesOf 4 (length (replaced i [] (f .reads)))) (front ++ back)
 
 module _ (f : File) (i : ℕ) (h : i < length (f .reads)) where
   -- the header and the reads before read i, that read, and those after it
@@ -55,6 +64,40 @@ module _ (f : File) (i : ℕ) (h : i < length (f .reads)) where
   unfolding layout off index-bytes ahead
   is-layout = rw (reads-split, append-assoc)
 
+  -- the reads with others in its place
+  replaced-laid : (ws : List Read) → layoutReads (replaced i ws (f .reads)) ≡ layoutReads (take i (f .reads)) ++ (layoutReads ws ++ after)
+  unfolding after
+  replaced-laid ws = rw (reads-append (take i (f .reads) ++ ws) (drop (suc i) (f .reads)), reads-append (take i (f .reads)) ws, append-assoc)
+
+  changed-laid : (r : Read) → layoutHeader (withReads (replaced i (r ∷ []) (f .reads)) f) ++ layoutReads (replaced i (r ∷ []) (f .reads)) ≡ ahead ++ (layoutRead r ++ after)
+  unfolding layoutReads ahead
+  changed-laid r =
+      let n : length (replaced i (r ∷ []) (f .reads)) ≡ length (f .reads) = simp (length-append, length-take, length-drop) (omega arith) in
+      rw (header-same f (replaced i (r ∷ []) (f .reads)) n, replaced-laid (r ∷ []), append-nil (layoutRead r)) (sym (append-assoc (layoutHeader f) _ _))
+
+  changed-layout : (r : Read) → layout (withReads (replaced i (r ∷ []) (f .reads)) f) ≡ insertAt off index-bytes (ahead ++ (layoutRead r ++ after))
+  unfolding layout off index-bytes
+  changed-layout r = rw (changed-laid r)
+
+  -- none is declared
+  no-offset : f .index ≡ noIndex → off ≡ 0
+  unfolding off
+  no-offset e = ap (λ (x : Index). x .offset) e
+
+  no-bytes : f .index ≡ noIndex → index-bytes ≡ []
+  unfolding index-bytes
+  no-bytes e = ap layoutIndex e ∙ layout-none
+
+  gone-laid : layoutHeader f ++ layoutReads (replaced i [] (f .reads)) ≡ ahead ++ after
+  unfolding layoutReads ahead
+  gone-laid = rw (replaced-laid []) (sym (append-assoc (layoutHeader f) _ _))
+
+  gone-layout : f .index ≡ noIndex → layout (withReads (replaced i [] (f .reads)) f)
+      ≡ putAt 20 (bytesOf 4 (length (replaced i [] (f .reads)))) (insertAt off index-bytes ahead ++ after)
+  gone-layout e =
+      layout-plain (withReads (replaced i [] (f .reads)) f) e ∙ header-count f (replaced i [] (f .reads)) _
+      ∙ rw (gone-laid, no-offset e, no-bytes e, insert-zero)
+
   place-is : place f i ≡ length ahead + cond (leb off (length ahead)) (length index-bytes) 0
   unfolding place off index-bytes ahead
   place-is = rw length-append
@@ -67,6 +110,8 @@ module _ (f : File) (i : ℕ) (h : i < length (f .reads)) where
     back = after;
     size = length-insert off index-bytes ahead l ∙ rw (place-is, le-leb off (length ahead) l);
     is = is-layout ∙ insert-left off ahead index-bytes (own ++ after) l;
+    changed = λ r s. changed-layout r ∙ insert-left off ahead index-bytes (layoutRead r ++ after) l;
+    gone = gone-layout;
   }
 
   none : declared (f .index .offset) (length (f .index .bytes)) ≡ false → off ≤ length ahead
@@ -92,13 +137,16 @@ module _ (f : File) (i : ℕ) (h : i < length (f .reads)) where
       let n : ℕ = off - (length ahead + length own) in
       let some : 16 ≤ length own = read-some (readAt f i) in
       let o : off ≡ length ahead + (length own + n) = omega arith in
+      let laid : (r : Read) → length (layoutRead r) ≡ length own → insertAt off index-bytes (ahead ++ (layoutRead r ++ after)) ≡ ahead ++ (layoutRead r ++ insertAt n index-bytes after) = λ r e.
+      ap (λ (m : ℕ). insertAt m index-bytes (ahead ++ (layoutRead r ++ after))) (o ∙ ap (λ (m : ℕ). length ahead + (m + n)) (sym e))
+      ∙ insert-right (length (layoutRead r) + n) ahead index-bytes (layoutRead r ++ after) ∙ ap (λ (l : List ℕ). ahead ++ l) (insert-right n (layoutRead r) index-bytes after) in
       record {
         front = ahead;
         back = insertAt n index-bytes after;
         size = rw (place-is, lt-leb off (length ahead) (omega arith)) (omega arith);
-        is =
-            is-layout ∙ ap (λ (m : ℕ). insertAt m index-bytes (ahead ++ (own ++ after))) o ∙ insert-right (length own + n) ahead index-bytes (own ++ after)
-            ∙ ap (λ (l : List ℕ). ahead ++ l) (insert-right n own index-bytes after);
+        is = is-layout ∙ laid (readAt f i) refl;
+        changed = λ r s. changed-layout r ∙ ⊎-elim (λ e. laid r e) (λ e. let z = no-offset e in absurd (omega arith)) s;
+        gone = λ e. let z = no-offset e in absurd (omega arith);
       }
 
   -- the boundary that the index meets is at or before read i, or after it

@@ -15,7 +15,7 @@ use Rattle.sff_format.specs.declared.Answer.the-variants.{Accepted, Refu
 use Rattle.sff_format.specs.Rules.{declared}
 use Rattle.sff_format.specs.Answer.{acceptedOr}
 use Rattle.sff_format.specs.Model.{Read, File, noIndex, layoutRead, layout}
-use Rattle.sff_format.specs.Valid.{ValidRead, ValidReads, Valid}
+use Rattle.sff_format.specs.Valid.{Valid}
 use Rattle.sff_format.specs.HeaderTest.{indexOffset, indexLength, readCount, flowCharacters}
 use Rattle.sff_format.specs.FileTest.{fileTest}
 use Rattle.sff_format.specs.Writing.{newFile, newTest, newOutcome, newBuffer, givenTest, appendTest, appendOutcome, appendBuffer, Left, appendEach, writeEach, Lent, AllLent}
@@ -25,16 +25,9 @@ use Rattle.sff_format.proofs.HeaderLaws.{offset-is, index-length-is, co
 use Rattle.sff_format.proofs.FileTaken.{header-first, file-taken, file-back}
 use Rattle.sff_format.proofs.Appended.{reads-append, layout-plain}
 use Rattle.sff_format.proofs.Written.{layout-bytes}
+use Rattle.sff_format.proofs.Keeps.{valid-left, valid-next}
 use Rattle.sff_format.proofs.Appends.{plain, plain-valid, length-more, appended-in, carried, carried-out, append-done, append-left, append-valid, is-plain}
 use Rattle.sff_format.proofs.Given.{or-left, or-right, valid-given}
-
-valid-left : (characters : List ℕ) (us ws : List Read) → ValidReads characters (us ++ ws) → ValidReads characters us
-valid-left characters [] ws g = tt
-valid-left characters (u ∷ us) ws g = (g .0, valid-left characters us ws (g .1))
-
-valid-next : (characters : List ℕ) (us : List Read) (r : Read) (ws : List Read) → ValidReads characters (us ++ (r ∷ ws)) → ValidRead characters r
-valid-next characters [] r ws g = g .0
-valid-next characters (u ∷ us) r ws g = valid-next characters us r ws (g .1)
 
 -- what is left where a file has been written at the front of a buffer
 abbrev written : List ℕ → File → Left

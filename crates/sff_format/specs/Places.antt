@@ -1,8 +1,8 @@
 -- Where a read starts: by the sizes of what stands before it, and as a walk over the bytes finds it. Assumes nothing: these are definitions.
 use Prim.Native.Nat.{ℕ, zero, suc, _+_}
 use mathlib.Core.Bool.{Bool, false, cond}
-use mathlib.Core.List.{List, []}
-use lib.ListN.{length, take, getD}
+use mathlib.Core.List.{List, [], _++_}
+use lib.ListN.{length, take, drop, getD}
 use lib.Dec.{leb}
 use Rattle.sff_format.specs.Model.{Read, File, layoutReads, layoutHeader, layoutIndex}
 use Rattle.sff_format.specs.HeaderTest.{headerLength, flows}
@@ -26,6 +26,10 @@ noRead = record {
 -- the read at a position from 0
 abbrev pub readAt : File → ℕ → Read
 readAt f i = getD (f .reads) i noRead
+
+-- the reads with ws in the place of the one at position i
+abbrev pub replaced : ℕ → List Read → List Read → List Read
+replaced i ws rs = take i rs ++ ws ++ drop (suc i) rs
 
 -- where it starts: after the header, the reads before it, and an index that stands no later
 unfoldable pub place : File → ℕ → ℕ

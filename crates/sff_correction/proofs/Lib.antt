@@ -1,0 +1,2 @@
+-- What a well-formed record tells.
+pub mod Records

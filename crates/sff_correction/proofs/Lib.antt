@@ -2,3 +2,7 @@
 pub mod Records
 -- What a record for which no reason holds makes of a file.
 pub mod Edited
+-- One correction; a list of them, and the claim over every list.
+pub mod Carried
+pub mod ListTurns
+pub mod ListClaim

@@ -39,7 +39,7 @@ unfolding fields countLeft countRight headerFields
 header-split f = header-is f ∙ simp append-assoc
 
 -- a write over as many bytes
-put-over : (us xs ys ws : List ℕ) → length xs ≡ length ys → putAt (length us) xs (us ++ (ys ++ ws)) ≡ us ++ (xs ++ ws)
+pub put-over : (us xs ys ws : List ℕ) → length xs ≡ length ys → putAt (length us) xs (us ++ (ys ++ ws)) ≡ us ++ (xs ++ ws)
 unfolding putAt
 put-over us xs ys ws e = rw (take-append-seam, e, drop-append-add, drop-append-seam) (append-assoc us xs ws)
 

@@ -1,0 +1,148 @@
+-- One claim over every list of whole records on any accepted file: the whole answer and the whole buffer, over the model of the file. Assumes nothing.
+use Prim.Native.Nat.{ℕ, zero, suc, _+_, _*_, _/_, _%_, _≤_, _<_}
+use mathlib.Core.Path.{_≡_, refl, sym, ap, _∙_}
+use mathlib.Core.Bool.{Bool, true, false}
+use mathlib.Core.List.{List}
+use native.Mathlib.Omega.{arith}
+use borrow.Author.Tests.{lt-ltb, le-ltb, leb-true, leb-false}
+use lib.Dec.{ltb, leb}
+use lib.ListN.{length, take}
+use lib.Seq.{length-take-le}
+use Rattle.octets.specs.Parts.{settled}
+use Rattle.octets.specs.Numbers.{Bytes}
+use Rattle.octets.proofs.AllBytes.{bytes-take, bytes-part}
+use Rattle.octets.proofs.Settled.{take-settled, length-settled, settled-front, settled-again}
+use Rattle.sff_format.specs.declared.Answer.{Answer}
+use Rattle.sff_format.specs.declared.Answer.the-variants.{Accepted, Refused}
+use Rattle.sff_format.specs.Answer.{acceptedOr, when, _then_}
+use Rattle.sff_format.specs.Model.{File, layout}
+use Rattle.sff_format.specs.Valid.{Valid}
+use Rattle.sff_format.specs.FileTest.{fileTest}
+use Rattle.sff_format.specs.Parse.{parse}
+use Rattle.sff_format.proofs.Answers.{first-ok, second-ok, not-accepted}
+use Rattle.sff_format.proofs.FileLaid.{file-laid, file-valid}
+use Rattle.sff_format.proofs.FileTaken.{file-taken, file-back}
+use Rattle.sff_correction.specs.Record.{recordTest}
+use Rattle.sff_correction.specs.Edit.{edited}
+use Rattle.sff_correction.specs.Reasons.{reasons}
+use Rattle.sff_correction.specs.Correct.{correctTest, corrected, over}
+use Rattle.sff_correction.specs.ListRun.{recordAt, ran, turns, runList}
+use Rattle.sff_correction.specs.ListModel.{fileAfter, reasonFor, firstRefused, greatest, lastAnswer, runOn}
+use Rattle.sff_correction.proofs.Edited.{reasons-room, edited-valid}
+use Rattle.sff_correction.proofs.ListTurns.{turn-on, turn-stop, list-run}
+
+-- on a buffer that holds a file that keeps the rules, the tests are those over the model
+module _ (f : File) (m : ℕ) (b : List ℕ) (v : Valid f) (h : length (layout f) ≤ m) (i : m ≤ length b) (r : List ℕ) where
+  model-test : correctTest (settled (layout f) m b) (length (layout f)) r ≡ (recordTest r then reasons (length b) r f)
+  unfolding correctTest _then_ when
+  model-test =
+      let n : length (settled (layout f) m b) ≡ length b = length-settled (layout f) m b h i in
+      let l : ltb (length b) (length (layout f)) ≡ false = le-ltb (length b) (length (layout f)) (omega arith) in
+      rw (n, l, take-settled (layout f) m b, file-taken f v, file-back f v)
+
+  model-new : corrected (settled (layout f) m b) (length (layout f)) r ≡ layout (edited r f)
+  model-new = rw (take-settled (layout f) m b, file-back f v)
+
+-- the state of a run after k records
+record Held (k : ℕ) (b l : List ℕ) (f : File) : Type 0 where
+  pub valid : Valid (fileAfter k l f)
+  pub low : length (layout (fileAfter k l f)) ≤ greatest k l f
+  pub high : greatest k l f ≤ length b
+
+held-more : (k : ℕ) (b l : List ℕ) (f : File) → Bytes l → Held k b l f → reasonFor (length b) k l f ≡ Accepted → Held (suc k) b l f
+unfolding fileAfter reasonFor greatest
+held-more k b l f y s e =
+    let q = first-ok _ _ e in
+    let o = second-ok _ _ e in
+    let n = reasons-room (length b) (recordAt k l) (fileAfter k l f) o in
+    let g = s .low in
+    let x = s .high in
+    record {
+      valid = edited-valid (length b) (recordAt k l) (fileAfter k l f) o q (bytes-part (96 * k) 96 l y) (s .valid);
+      low = omega arith;
+      high = omega arith;
+    }
+
+module _ (m k : ℕ) (b l : List ℕ) (f : File) (s : Held k b l f) where
+  -- the buffer after k records
+  abbrev now : List ℕ
+  now = settled (layout (fileAfter k l f)) (greatest k l f) b
+
+  held-test : correctTest now (length (layout (fileAfter k l f))) (recordAt k l) ≡ reasonFor (length b) k l f
+  unfolding reasonFor
+  held-test = model-test (fileAfter k l f) (greatest k l f) b (s .valid) (s .low) (s .high) (recordAt k l)
+
+  held-new : corrected now (length (layout (fileAfter k l f))) (recordAt k l) ≡ layout (fileAfter (suc k) l f)
+  unfolding fileAfter
+  held-new = model-new (fileAfter k l f) (greatest k l f) b (s .valid) (s .low) (s .high) (recordAt k l)
+
+  step-on : reasonFor (length b) k l f ≡ Accepted
+      → turns (suc m) k now (length (layout (fileAfter k l f))) l
+      ≡ turns m (suc k) (settled (layout (fileAfter (suc k) l f)) (greatest (suc k) l f) b) (length (layout (fileAfter (suc k) l f))) l
+  unfolding greatest
+  step-on e =
+      turn-on m k now (length (layout (fileAfter k l f))) l (held-test ∙ e)
+      ∙ rw (held-new, settled-again (layout (fileAfter (suc k) l f)) (layout (fileAfter k l f)) (greatest k l f) b (s .low))
+
+  step-stop : (all n p : ℕ) → k < all → reasonFor (length b) k l f ≡ Refused n p → turns (suc m) k now (length (layout (fileAfter k l f))) l ≡ runOn all k b l f
+  unfolding lastAnswer
+  step-stop all n p h e = turn-stop m k now (length (layout (fileAfter k l f))) l n p (held-test ∙ e) ∙ rw (lt-ltb k all h, e)
+
+turns-are : (m k : ℕ) (b l : List ℕ) (f : File) (all : ℕ) → Bytes l → all ≡ k + m → Held k b l f
+    → turns m k (settled (layout (fileAfter k l f)) (greatest k l f) b) (length (layout (fileAfter k l f))) l ≡ runOn all (firstRefused m k (length b) l f) b l f
+unfolding turns firstRefused lastAnswer acceptedOr
+turns-are zero k b l f all y e s = rw (le-ltb k all (omega arith))
+turns-are (suc m) k b l f all y e s = go (reasonFor (length b) k l f) refl (turns-are m (suc k) b l f all y (omega arith))
+  where
+    go : (a : Answer) → reasonFor (length b) k l f ≡ a
+        → (Held (suc k) b l f → turns m (suc k) (settled (layout (fileAfter (suc k) l f)) (greatest (suc k) l f) b) (length (layout (fileAfter (suc k) l f))) l ≡ runOn all (firstRefused m (suc k) (length b) l f) b l f)
+        → turns (suc m) k (settled (layout (fileAfter k l f)) (greatest k l f) b) (length (layout (fileAfter k l f))) l ≡ runOn all (acceptedOr a (firstRefused m (suc k) (length b) l f) k) b l f
+    go Accepted x ih = step-on m k b l f s x ∙ ih (held-more k b l f y s x)
+    go (Refused n p) x ih = step-stop m k b l f s all n p (omega arith) x
+
+-- The claim: of a list of whole records on an accepted file, the records before the first for which a reason holds in its turn are carried out, and no others. The count is how
+-- many; the answer is that reason, or none; the file is written afresh as these records have left its reads, then zeros up to the greatest length that it had, and the rest as it was.
+pub list-claim : (b : List ℕ) (len : ℕ) (l : List ℕ) → Bytes b → Bytes l → len ≤ length b → fileTest (take len b) ≡ Accepted → length l % 96 ≡ 0
+    → runList b len l ≡ runOn (length l / 96) (firstRefused (length l / 96) 0 (length b) l (parse (take len b))) b l (parse (take len b))
+unfolding fileAfter greatest
+list-claim b len l y z h e w =
+    let f = parse (take len b) in
+    let laid : layout f ≡ take len b = file-laid (take len b) (bytes-take len b y) e in
+    let n : length (layout f) ≡ len = ap length laid ∙ length-take-le len b h in
+    let front : settled (layout f) (length (layout f)) b ≡ b = rw n (settled-front (layout f) len b (sym laid) h) in
+    let s : Held 0 b l f = record { valid = file-valid (take len b) (bytes-take len b y) e; low = omega arith; high = omega arith } in
+    list-run b len l w
+    ∙ ap (λ (i : ℕ). turns (length l / 96) 0 b i l) (sym n) ∙ ap (λ (x : List ℕ). turns (length l / 96) 0 x (length (layout f)) l) (sym front)
+    ∙ turns-are (length l / 96) 0 b l f (length l / 96) z (omega arith) s
+
+-- `firstRefused` is what its name says: it is at most the end, no reason holds before it, and one holds at it unless it is the end
+module _ (room : ℕ) (l : List ℕ) (f : File) where
+  pub first-most : (m k : ℕ) → firstRefused m k room l f ≤ k + m
+  unfolding firstRefused acceptedOr
+  first-most zero k = omega arith
+  first-most (suc m) k = go (reasonFor room k l f) (first-most m (suc k))
+    where
+      go : (a : Answer) → firstRefused m (suc k) room l f ≤ suc k + m → acceptedOr a (firstRefused m (suc k) room l f) k ≤ k + suc m
+      go Accepted h = omega arith
+      go (Refused n p) h = omega arith
+
+  pub none-before : (m k j : ℕ) → k ≤ j → j < firstRefused m k room l f → reasonFor room j l f ≡ Accepted
+  unfolding firstRefused acceptedOr
+  none-before zero k j h i = absurd (let a : ⊥ = omega arith in a)
+  none-before (suc m) k j h i = go (reasonFor room k l f) refl i (leb j k) refl (none-before m (suc k) j)
+    where
+      go : (a : Answer) → reasonFor room k l f ≡ a → j < acceptedOr a (firstRefused m (suc k) room l f) k → (t : Bool) → leb j k ≡ t
+          → (suc k ≤ j → j < firstRefused m (suc k) room l f → reasonFor room j l f ≡ Accepted) → reasonFor room j l f ≡ Accepted
+      go Accepted x y true t ih = let w = leb-true j k t in let q : j ≡ k = omega arith in rw q x
+      go Accepted x y false t ih = let w = leb-false j k t in ih (omega arith) y
+      go (Refused n p) x y t q ih = absurd (let a : ⊥ = omega arith in a)
+
+  pub one-at : (m k : ℕ) → firstRefused m k room l f < k + m → reasonFor room (firstRefused m k room l f) l f ≡ Accepted → ⊥
+  unfolding firstRefused acceptedOr
+  one-at zero k h e = omega arith
+  one-at (suc m) k h e = go (reasonFor room k l f) refl h e (one-at m (suc k))
+    where
+      go : (a : Answer) → reasonFor room k l f ≡ a → acceptedOr a (firstRefused m (suc k) room l f) k < k + suc m → reasonFor room (acceptedOr a (firstRefused m (suc k) room l f) k) l f ≡ Accepted
+          → (firstRefused m (suc k) room l f < suc k + m → reasonFor room (firstRefused m (suc k) room l f) l f ≡ Accepted → ⊥) → ⊥
+      go Accepted x y z ih = ih (omega arith) z
+      go (Refused n p) x y z ih = not-accepted n p (sym x ∙ z)

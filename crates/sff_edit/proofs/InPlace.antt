@@ -23,9 +23,9 @@ use Rattle.sff_format.specs.Places.{readAt, replaced, place, readPlace}
 use Rattle.sff_format.proofs.Sizes.{length-head, length-header}
 use Rattle.sff_format.proofs.Appended.{put-over}
 use Rattle.sff_format.proofs.HeaderLaws.{fits-31}
-use Rattle.sff_format.proofs.FileLaid.{head-ok, ends}
+use Rattle.sff_format.proofs.FileLaid.{head-ok, ends, reads-counted}
 use Rattle.sff_format.proofs.ReadLaid.{fits-16, section-is, section-fits}
-use Rattle.sff_format.proofs.Places.{reads-counted, read-found, place-found, read-split, read-changed, read-gone}
+use Rattle.sff_format.proofs.Places.{read-found, place-found, read-split, read-changed, read-gone}
 use Rattle.sff_format.proofs.Positions.{read-accepted}
 use Rattle.sff_correction.specs.Record.{position, newLength, newName, isClips, isRename, recordTest}
 use Rattle.sff_correction.specs.Edit.{clipped, renamed, target, edited}
@@ -296,7 +296,7 @@ module _ (buffer : List ℕ) (len : ℕ) (r : List ℕ) (h : len ≤ length buff
 
       fewer : length (replaced (position r) [] (parse file .reads)) ≡ readCount buffer - 1
       fewer =
-          let c = reads-counted file y e (position r) i in
+          let c = reads-counted file in
           let g : 31 ≤ length file = fits-31 file (head-ok file e) in
           let m : readCount buffer ≡ readCount file = number-inside 4 20 (omega (arith, g, file-length)) in
           let f : length (replaced (position r) [] (parse file .reads)) ≡ length (parse file .reads) - 1 = simp (length-append, length-take, length-drop) (omega (arith, c, i)) in

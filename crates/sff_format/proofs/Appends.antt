@@ -26,7 +26,7 @@ use Rattle.sff_format.proofs.Given.{given-valid}
 use lib.Seq.{length-take-le}
 use Rattle.sff_format.specs.Parse.{parse}
 use Rattle.sff_format.proofs.Boundaries.{undeclared}
-use Rattle.sff_format.proofs.FileLaid.{length-parsed, file-laid, file-valid}
+use Rattle.sff_format.proofs.FileLaid.{reads-counted, file-laid, file-valid}
 use Rattle.sff_format.proofs.Keeps.{valid-append}
 
 -- a file with no index
@@ -145,10 +145,6 @@ module _ (buffer : List ℕ) (len : ℕ) (r : Read) (y : Bytes (take len buffer)
   unfolding parse
   laid = ap layout (is-plain (parse old) (no-index-read old (c .no-index))) ∙ file-laid old y (c .accepted)
 
-  counted : length (parse old .reads) ≡ readCount old
-  unfolding parse
-  counted = length-parsed old (readCount old) (headerLength old) false
-
   -- without an index the model is as the new file's, with reads
   same-model : withReads (parse old .reads ++ (r ∷ [])) (parse old) ≡ plain (flowCharacters old) (keyCharacters old) (parse old .reads ++ (r ∷ []))
   unfolding parse
@@ -157,7 +153,7 @@ module _ (buffer : List ℕ) (len : ℕ) (r : Read) (y : Bytes (take len buffer)
   pub append-afresh : appendBuffer buffer len r ≡ putAt 0 (layout (withReads (parse old .reads ++ (r ∷ [])) (parse old))) buffer
   append-afresh =
       let put = appended-in (flowCharacters old) (keyCharacters old) (parse old .reads) r buffer (rw (laid, length-old) (c .stated)) in
-      append-left buffer len r a ∙ (rw (laid, length-old, itself, counted) at put) ∙ rw same-model
+      append-left buffer len r a ∙ (rw (laid, length-old, itself, reads-counted old) at put) ∙ rw same-model
 
   -- and that file keeps the rules
   pub append-valid : Lent r → Valid (withReads (parse old .reads ++ (r ∷ [])) (parse old))
@@ -168,5 +164,5 @@ module _ (buffer : List ℕ) (len : ℕ) (r : Read) (y : Bytes (take len buffer)
       let b = c .below in
       let l : length (parse old .reads ++ (r ∷ [])) ≡ length (parse old .reads) + 1 = length-append (parse old .reads) (r ∷ []) in
       rw same-model
-      (plain-valid (flowCharacters old) (keyCharacters old) (parse old .reads ++ (r ∷ [])) (v .characters-good) (v .header-fits) (omega (arith, n, l, counted, b))
+      (plain-valid (flowCharacters old) (keyCharacters old) (parse old .reads ++ (r ∷ [])) (v .characters-good) (v .header-fits) (omega (arith, n, l, reads-counted old, b))
       (valid-append (flowCharacters old) (parse old .reads) (r ∷ []) (v .reads-good) (given-valid (flowCharacters old) r t (c .given), tt)))

@@ -36,6 +36,10 @@ unfolding parseReads
 length-parsed b zero p q = refl
 length-parsed b (suc n) p q = ap suc (length-parsed b n _ _)
 
+pub reads-counted : (b : List ℕ) → length (parse b .reads) ≡ readCount b
+unfolding parse
+reads-counted b = length-parsed b (readCount b) (headerLength b) false
+
 module _ (b : List ℕ) (y : Bytes b) (head : headerTest b ≡ Accepted) where
   module _ (p : ℕ) (e : readTest (flowCharacters b) b p ≡ Accepted) where
     pub laid : Stands p (layoutRead (parseRead (flows b) b p)) b

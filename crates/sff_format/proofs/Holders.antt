@@ -18,7 +18,7 @@ use Rattle.sff_format.specs.Parse.{parse}
 use Rattle.sff_format.specs.Places.{readAt}
 use Rattle.sff_format.specs.Writing.{givenTest, appendTest, Holder, Lent}
 use Rattle.sff_format.proofs.HeaderLaws.{count-is, characters-are}
-use Rattle.sff_format.proofs.FileLaid.{length-parsed, file-valid}
+use Rattle.sff_format.proofs.FileLaid.{reads-counted, file-valid}
 use Rattle.sff_format.proofs.FileTaken.{header-first, file-taken, file-back}
 use Rattle.sff_format.proofs.Written.{layout-bytes}
 use Rattle.sff_format.proofs.Keeps.{valid-at}
@@ -31,7 +31,7 @@ module _ (characters : List ℕ) (r : Read) where
   unfolding parse
   holder-valid h =
       let v = file-valid (h .file) (h .bytes) (h .accepted) in
-      let n : length (parse (h .file) .reads) ≡ readCount (h .file) = length-parsed (h .file) (readCount (h .file)) _ false in
+      let n = reads-counted (h .file) in
       let i = h .inside in
       rw (h .characters-same, h .holds) at (valid-at (flowCharacters (h .file)) (parse (h .file) .reads) (h .position) (omega (arith, n, i)) (v .reads-good))
 

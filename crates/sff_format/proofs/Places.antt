@@ -27,7 +27,7 @@ use Rattle.sff_format.proofs.Answers.{first-ok, second-ok}
 use Rattle.sff_format.proofs.Sizes.{size-none}
 use Rattle.sff_format.proofs.HeaderLaws.{header-fits}
 use Rattle.sff_format.proofs.Boundaries.{Done, undeclared, here-done, here-not, here-is, boundary-read, boundary-index, parse-read, parse-index, place-here, place-read, place-index}
-use Rattle.sff_format.proofs.FileLaid.{ends, done, here-read, here-next, pending-laid, head-ok, sections-ok, header-size, index-passed, length-parsed, file-laid, file-valid}
+use Rattle.sff_format.proofs.FileLaid.{ends, done, here-read, here-next, pending-laid, head-ok, sections-ok, header-size, index-passed, reads-counted, file-laid, file-valid}
 use Rattle.sff_format.proofs.Indexes.{indexOf, pass-fits, index-laid}
 use Rattle.sff_format.proofs.Split.{Split, split}
 
@@ -117,12 +117,8 @@ module _ (b : List ℕ) (y : Bytes b) (e : fileTest b ≡ Accepted) (i : ℕ) (h
   unfolding parse readPlace place
   place-found = rw index-size (found (declared (indexOffset b) (indexLength b)) refl _ (ap (λ (n : ℕ). n + length (layoutReads (take i (parseReads b (readCount b) (headerLength b) false)))) (header-size b y e)))
 
-  pub reads-counted : length (parse b .reads) ≡ readCount b
-  unfolding parse
-  reads-counted = length-parsed b (readCount b) (headerLength b) false
-
   at : Split (parse b) i
-  at = split (parse b) i (rw reads-counted h) (file-valid b y e)
+  at = split (parse b) i (rw (reads-counted b) h) (file-valid b y e)
 
   own : List ℕ
   own = layoutRead (readAt (parse b) i)

@@ -102,12 +102,15 @@ pub take-front : (xs l : List ℕ) → take (length xs) (putAt 0 xs l) ≡ xs
 unfolding putAt
 take-front xs l = take-append-seam xs (drop (0 + length xs) l)
 
+-- a write within the first of two lists
+pub put-left : (at : ℕ) (xs us l : List ℕ) → at + length xs ≤ length us → putAt at xs (us ++ l) ≡ putAt at xs us ++ l
+unfolding putAt
+put-left at xs us l h = rw (take-append-le at us l (omega arith), drop-append-le (at + length xs) us l h) (simp append-assoc)
+
 -- a write within what was put at the front
 pub put-front : (at : ℕ) (xs us l : List ℕ) → at + length xs ≤ length us → putAt at xs (putAt 0 us l) ≡ putAt 0 (putAt at xs us) l
 unfolding putAt
-put-front at xs us l h =
-    let e : length (take at us ++ xs ++ drop (at + length xs) us) ≡ length us = length-put at xs us h in
-    rw (take-append-le at us (drop (0 + length us) l) (omega arith), drop-append-le (at + length xs) us (drop (0 + length us) l) h, e) (simp append-assoc)
+put-front at xs us l h = let e : length (putAt at xs us) ≡ length us = length-put at xs us h in rw e (put-left at xs us (drop (0 + length us) l) h)
 
 -- the front of a list up to the end of what was put
 pub take-put : (at n : ℕ) (xs l : List ℕ) → length xs ≡ n → at + n ≤ length l → take (at + n) (putAt at xs l) ≡ take at l ++ xs
@@ -124,6 +127,11 @@ drop-take at to l h k =
 -- a part of a front
 pub part-take : (p n to : ℕ) (l : List ℕ) → p + n ≤ to → to ≤ length l → part p n (take to l) ≡ part p n l
 part-take p n to l h k = rw (drop-take p to l (omega arith) k) (take-take n (to - p) (drop p l) (omega arith))
+
+-- a part put where it stands
+pub put-same : (at n : ℕ) (l : List ℕ) → at + n ≤ length l → putAt at (part at n l) l ≡ l
+unfolding putAt
+put-same at n l h = rw (length-part at n l h, ← take-add, take-append-drop)
 
 -- what was put is what is read there, and what lies before or after it is as it was
 pub part-put : (at n : ℕ) (xs l : List ℕ) → length xs ≡ n → at + n ≤ length l → part at n (putAt at xs l) ≡ xs

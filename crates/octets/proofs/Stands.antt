@@ -9,10 +9,11 @@ use lib.ListN.{length, take, drop, replicate, length-append, length-take, length
 use lib.Seq.{take-add, drop-drop, take-at, drop-at, take-length}
 use Rattle.octets.specs.Parts.{part, filled, Stands}
 use Rattle.octets.specs.Numbers.{bigEndian, bytesOf, Bytes, number, fields, words, wordsAt, Words}
-use Rattle.octets.specs.Scans.{run, isZero, Every}
+use Rattle.octets.specs.Scans.{run, isZero, Every, fails}
 use Rattle.octets.proofs.Lists.{length-part}
 use Rattle.octets.proofs.Digits.{length-bytesOf, bigEndian-fits, bytesOf-bigEndian, bigEndian-small}
 use Rattle.octets.proofs.AllBytes.{bytes-part}
+use Rattle.octets.proofs.Every.{none-fails, every-left}
 
 -- what is read stands there
 pub read-stands : (p n : ℕ) (b : List ℕ) → p + n ≤ length b → Stands p (part p n b) b
@@ -100,6 +101,17 @@ stands-filled p q n m xs b e f h s = (
   stands-left p xs (replicate (n - length xs) 0) b h s,
   stand-zeros q m b (rw f (stands-right p q xs (replicate (n - length xs) 0) b e h s)),
 )
+
+-- a name in a field of `wide` bytes at `at`, zeros after it: any front of the field that holds the name is the name and zeros
+pub field-filled : (at n wide w : ℕ) (r : List ℕ) → at + wide ≤ length r → fails isZero (part (at + n) (wide - n) r) ≡ false → n ≤ w → w ≤ wide → part at w r ≡ filled w (part at n r)
+field-filled at n wide w r h e i j =
+    let l : length (part at n r) ≡ n = length-part at n r (omega arith) in
+    let s : wide - n ≡ w - n + (wide - w) = omega arith in
+    let two : Every isZero (part (at + n) (w - n) r ++ part (at + n + (w - n)) (wide - w) r) =
+    rw (s, part-two (at + n) (w - n) (wide - w) r) at (none-fails isZero (part (at + n) (wide - n) r) e) in
+    let z : Every isZero (part (at + n) (w - n) r) = every-left isZero (part (at + n) (w - n) r) (part (at + n + (w - n)) (wide - w) r) two in
+    stands-read at w (filled w (part at n r)) r (length-filled w (part at n r) (omega arith))
+    (filled-stands at (at + n) w (w - n) (part at n r) r (omega arith) (omega arith) (omega arith) (read-stands at n r (omega arith)) z)
 
 -- a number
 pub number-stands : (w p : ℕ) (b : List ℕ) → Bytes b → p + w ≤ length b → Stands p (bytesOf w (number w p b)) b

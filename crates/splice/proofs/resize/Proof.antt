@@ -1,0 +1,42 @@
+use Prim.Native.Nat.{ℕ, _+_, _-_}
+use mathlib.Core.Path.{_≡_, sym, _∙_}
+use mathlib.Core.List.{List, append-nil}
+use native.Mathlib.Omega.{arith}
+use lib.ListN.{length, replicate}
+use Rattle.octets.specs.Parts.{part}
+use Rattle.octets.proofs.Lists.{length-part, put-same, put-next}
+use borrow.Author.Needs.{needs}
+use Rattle.splice.proofs.resize.Statement.{statement}
+use Rattle.splice.proofs.resize.Tie as tie
+
+pub resize-spec : {M : Type 1} → statement M
+resize-spec =
+    tie.close
+    (tie.spec
+    (λ c.
+    let a = c .before .before .args in
+    let e : a .size ≡ a .n = omega arith in
+    let z : a .n - a .n ≡ 0 = omega arith in
+    rw (e, z, append-nil) (sym (put-same (a .at + a .n) (a .end - (a .at + a .n)) (a .s .now) (omega arith))))
+    (λ c. search needs)
+    (λ c. search needs)
+    (λ c. search needs)
+    (λ c κs. search needs)
+    (λ c. search needs)
+    (λ c.
+    let a = c .before .before .before .before .before .before .before .args in
+    let z : a .n - a .size ≡ 0 = omega arith in
+    rw (z, append-nil) (c .before .before .move-up .ensures))
+    (λ c κs. search needs)
+    (λ c. search needs)
+    (λ c κs. search needs)
+    (λ c. search needs)
+    (λ c.
+    let a = c .before .before .before .before .before .before .before .before .before .before .before .args in
+    let count : ℕ = a .end - (a .at + a .n) in
+    let tail : List ℕ = part (a .at + a .n) count (a .s .now) in
+    let z : a .end - (a .at + a .size + count) ≡ a .n - a .size = omega arith in
+    let len : length tail ≡ count = length-part (a .at + a .n) count (a .s .now) (omega arith) in
+    rw (← z)
+    (rw (c .before .before .before .before .before .before .move-down .ensures) at (c .before .before .fill .ensures)
+    ∙ put-next (a .at + a .size) count tail (replicate (a .end - (a .at + a .size + count)) 0) (a .s .now) len (omega arith))))

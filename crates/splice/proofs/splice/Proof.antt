@@ -1,0 +1,24 @@
+use Prim.Native.Nat.{ℕ, _+_, _-_}
+use mathlib.Core.Path.{_≡_, _∙_}
+use mathlib.Core.List.{List, _++_}
+use native.Mathlib.Omega.{arith}
+use lib.ListN.{length, replicate}
+use Rattle.octets.specs.Parts.{part, spliced}
+use Rattle.octets.proofs.Lists.{length-part, put-before}
+use borrow.Author.Needs.{needs}
+use Rattle.splice.proofs.splice.Statement.{statement}
+use Rattle.splice.proofs.splice.Tie as tie
+
+returns : tie.Need-returns
+unfolding spliced
+returns c =
+    let a = c .before .before .before .before .before .before .before .before .before .before .args in
+    let tail : List ℕ = part (a .at + a .n) (a .end - (a .at + a .n)) (a .s .now) in
+    let put : List ℕ = part (a .from) (a .size) (a .source .now) in
+    let len : length put ≡ a .size = length-part (a .from) (a .size) (a .source .now) (omega arith) in
+    rw len
+    (rw (c .before .before .before .before .before .before .resize .ensures) at (c .before .before .copy .ensures)
+    ∙ put-before (a .at) (a .size) put (tail ++ replicate (a .n - a .size) 0) (a .s .now) len (omega arith))
+
+pub splice-spec : {M : Type 1} → statement M
+splice-spec = tie.close (tie.spec (λ c κs. search needs) (λ c κs. search needs) (λ c. search needs) returns)

@@ -9,7 +9,7 @@ use native.Mathlib.Numerals.{add-one}
 use native.Mathlib.Omega.{arith}
 use borrow.Author.Tests.{le-leb, lt-leb}
 use lib.ListN.{length, take, drop, set, getD, length-append, length-take, length-drop, take-append-drop, List·getD-append}
-use lib.Seq.{sets, sets-eq, drop-cons, length-take-le, take-suc, set-at, append-snoc, getD-append-add, getD-take, getD-drop, take-at, drop-at, drop-drop, take-take, take-add, take-append-seam, take-append-le, drop-append-le}
+use lib.Seq.{sets, sets-eq, drop-cons, length-take-le, take-suc, set-at, append-snoc, getD-append-add, getD-take, getD-drop, take-at, drop-at, drop-drop, take-take, take-add, take-append-seam, drop-append-seam, drop-append-add, take-append-le, drop-append-le}
 use Rattle.octets.specs.Parts.{part, wholePart, putAt}
 
 -- the first of the elements of a part, and the rest
@@ -30,6 +30,11 @@ put-nil at l = rw (add-zero, append-nil, take-append-drop)
 pub length-put : (at : ℕ) (xs l : List ℕ) → at + length xs ≤ length l → length (putAt at xs l) ≡ length l
 unfolding putAt
 length-put at xs l h = simp (length-append, length-take, length-drop) (omega arith)
+
+-- a write over as many bytes
+pub put-over : (us xs ys ws : List ℕ) → length xs ≡ length ys → putAt (length us) xs (us ++ (ys ++ ws)) ≡ us ++ (xs ++ ws)
+unfolding putAt
+put-over us xs ys ws e = rw (take-append-seam, e, drop-append-add, drop-append-seam) (append-assoc us xs ws)
 
 -- a store right after what was put
 pub put-snoc : (at : ℕ) (xs l : List ℕ) (x : ℕ) → at + length xs < length l → set (putAt at xs l) (at + length xs) x ≡ putAt at (xs ++ (x ∷ [])) l

@@ -1,22 +1,17 @@
 -- One correction, refused or carried out: what is answered, and what is left. Assumes nothing.
 use Prim.Native.Nat.{ℕ, _≤_, max}
-use mathlib.Core.Path.{_≡_, refl, sym, ap, _∙_}
+use mathlib.Core.Path.{_≡_, _∙_}
 use mathlib.Core.List.{List}
 use native.Mathlib.Omega.{arith}
 use borrow.Author.Tests.{le-ltb}
 use lib.ListN.{length, take}
-use lib.Dec.{ltb}
-use Rattle.octets.specs.Parts.{settled}
 use Rattle.octets.specs.Numbers.{Bytes}
 use Rattle.octets.proofs.Settled.{take-settled, length-settled}
-use Rattle.sff_format.specs.declared.Answer.{Answer}
 use Rattle.sff_format.specs.declared.Answer.the-variants.{Accepted, Refused}
 use Rattle.sff_format.specs.Answer.{when, acceptedOr, _then_}
-use Rattle.sff_format.specs.Model.{File, layout}
 use Rattle.sff_format.specs.Valid.{Valid}
 use Rattle.sff_format.specs.FileTest.{fileTest}
 use Rattle.sff_format.specs.Parse.{parse}
-use Rattle.sff_format.specs.HeaderTest.{readCount}
 use Rattle.sff_format.proofs.Answers.{first-ok, second-ok, under-ok}
 use Rattle.sff_format.proofs.FileLaid.{file-valid}
 use Rattle.sff_format.proofs.FileTaken.{file-taken, file-back}

@@ -1,31 +1,30 @@
 -- What a record for which no reason holds makes of a file: it keeps the rules, it fits, and the place of its read stays. Assumes nothing.
-use Prim.Native.Nat.{ℕ, suc, _+_, _≤_, _<_}
+use Prim.Native.Nat.{ℕ, _≤_, _<_}
 use mathlib.Core.Path.{_≡_, refl, sym, ap, _∙_}
 use mathlib.Core.Bool.{Bool, true, false, not, _&&_}
 use mathlib.Core.Logic.{inl, inr}
-use mathlib.Core.List.{List, [], _∷_, _++_, append-assoc}
+use mathlib.Core.List.{List, [], _∷_, append-assoc}
 use native.Mathlib.Omega.{arith}
-use lib.ListN.{length, take, drop, length-append}
+use lib.ListN.{length, take, length-append}
 use lib.Seq.{length-take-le, take-at}
-use lib.Dec.{ltb}
 use borrow.Author.Tests.{ltb-true, not-false}
-use Rattle.octets.specs.Parts.{up8, same}
+use Rattle.octets.specs.Parts.{same}
 use Rattle.octets.specs.Numbers.{Bytes}
 use Rattle.sff_format.specs.declared.Answer.{Answer}
 use Rattle.sff_format.specs.declared.Answer.the-variants.{Accepted, Refused}
 use Rattle.sff_format.specs.Answer.{acceptedOr}
 use Rattle.sff_format.specs.Rules.{declared}
-use Rattle.sff_format.specs.Model.{Read, File, noIndex, layoutReadHeader, layoutReadData, layoutRead, layoutReads, layoutHeader, layoutIndex, layout}
+use Rattle.sff_format.specs.Model.{Read, File, noIndex, layoutReadHeader, layoutReadData, layoutRead, layoutHeader, layout}
 use Rattle.sff_format.specs.Valid.{ValidRead, Valid}
 use Rattle.sff_format.specs.ReadTest.{clipTest}
-use Rattle.sff_format.specs.Places.{readAt, replaced, place}
-use Rattle.sff_format.proofs.Answers.{first-ok, second-ok, when-ok, under-ok, not-accepted}
+use Rattle.sff_format.specs.Places.{replaced, place}
+use Rattle.sff_format.proofs.Answers.{first-ok, second-ok, when-ok, under-ok}
 use Rattle.sff_format.proofs.Sizes.{length-head, length-header}
 use Rattle.sff_format.proofs.Boundaries.{undeclared}
 use Rattle.sff_format.proofs.Keeps.{valid-at, valid-changed, valid-gone}
-use Rattle.sff_correction.specs.Record.{position, newQualityLeft, newQualityRight, newAdapterLeft, newAdapterRight, oldName, newName, isClips, isRename, recordTest}
+use Rattle.sff_correction.specs.Record.{position, newQualityLeft, newQualityRight, newAdapterLeft, newAdapterRight, oldName, isClips, isRename, recordTest}
 use Rattle.sff_correction.specs.Edit.{clipped, renamed, instead, target, edited}
-use Rattle.sff_correction.specs.Reasons.{clipsAbove, others, bears, reasons}
+use Rattle.sff_correction.specs.Reasons.{clipsAbove, reasons}
 use Rattle.sff_correction.proofs.Records.{new-most, new-good, new-size, new-clips-fit}
 
 -- a file whose index is not declared has none

@@ -26,7 +26,7 @@ use Rattle.sff_correction.specs.Record.{recordTest}
 use Rattle.sff_correction.specs.Edit.{edited}
 use Rattle.sff_correction.specs.Reasons.{reasons}
 use Rattle.sff_correction.specs.Correct.{correctTest, corrected, over}
-use Rattle.sff_correction.specs.ListRun.{recordAt, ran, turns, runList}
+use Rattle.sff_correction.specs.ListRun.{recordAt, turns, runList}
 use Rattle.sff_correction.specs.ListModel.{fileAfter, reasonFor, firstRefused, greatest, lastAnswer, runOn}
 use Rattle.sff_correction.proofs.Edited.{reasons-room, edited-valid}
 use Rattle.sff_correction.proofs.ListTurns.{turn-on, turn-stop, list-run}

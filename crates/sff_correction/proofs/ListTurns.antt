@@ -1,13 +1,13 @@
 -- One turn of a list run. Assumes nothing.
 use Prim.Native.Nat.{ℕ, suc, _/_, _%_}
-use mathlib.Core.Path.{_≡_, refl, sym, ap, _∙_}
+use mathlib.Core.Path.{_≡_, _∙_}
 use mathlib.Core.List.{List}
 use lib.ListN.{length}
 use borrow.Author.Tests.{eq-eqb, ne-eqb}
 use Rattle.sff_format.specs.declared.Answer.the-variants.{Accepted, Refused}
 use Rattle.sff_format.specs.Answer.{acceptedOr}
-use Rattle.sff_correction.specs.Correct.{correctTest, corrected, correctOutcome, over, correctBuffer}
-use Rattle.sff_correction.specs.ListRun.{recordAt, Run, ran, turns, runList}
+use Rattle.sff_correction.specs.Correct.{correctTest, corrected, over}
+use Rattle.sff_correction.specs.ListRun.{recordAt, ran, turns, runList}
 use Rattle.sff_correction.proofs.Carried.{refused-outcome, refused-buffer, done-outcome, done-buffer}
 
 module _ (m k : ℕ) (buffer : List ℕ) (len : ℕ) (l : List ℕ) where

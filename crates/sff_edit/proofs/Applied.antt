@@ -1,13 +1,13 @@
 -- What the corrector has judged and found before an edit, what that tells of the bytes, and what each edit then leaves. Assumes nothing.
 use Prim.Native.Nat.{ℕ, _+_, _-_, _≤_, _<_}
-use mathlib.Core.Path.{_≡_, refl, sym, ap, _∙_}
+use mathlib.Core.Path.{_≡_, sym, ap, _∙_}
 use mathlib.Core.Bool.{true, false}
 use mathlib.Core.List.{List, _++_}
 use native.Mathlib.Omega.{arith}
 use borrow.Author.Tests.{eq-eqb, ne-eqb}
 use lib.ListN.{length, take}
 use lib.Seq.{length-take-le}
-use Rattle.octets.specs.Parts.{putAt, up8}
+use Rattle.octets.specs.Parts.{part, putAt, spliced}
 use Rattle.octets.specs.Numbers.{Bytes, number, bytesOf}
 use Rattle.octets.proofs.Lists.{put-next}
 use Rattle.octets.proofs.Digits.{length-bytesOf}
@@ -32,8 +32,15 @@ use Rattle.sff_edit.specs.Edits.{clippedAt, nameRoom, renamedAt, removed
 use Rattle.sff_edit.proofs.InPlace.{number-inside, section-length, read-size, read-inside, clips-length, clips-done, name-after, name-done, none-after, none-done}
 
 -- the two lengths of a header section, put one after the other
-pub put-lengths : (p m n : ℕ) (l : List ℕ) → p + 2 ≤ length l → putAt (p + 2) (bytesOf 2 n) (putAt p (bytesOf 2 m) l) ≡ putAt p (bytesOf 2 m ++ bytesOf 2 n) l
+put-lengths : (p m n : ℕ) (l : List ℕ) → p + 2 ≤ length l → putAt (p + 2) (bytesOf 2 n) (putAt p (bytesOf 2 m) l) ≡ putAt p (bytesOf 2 m ++ bytesOf 2 n) l
 put-lengths p m n l h = put-next p 2 (bytesOf 2 m) (bytesOf 2 n) l (length-bytesOf 2 m) h
+
+-- a new name, in the order in which the code writes it
+pub name-put : (p len : ℕ) (r b : List ℕ) {old new n : ℕ} {s t u : List ℕ} → old ≡ sectionLength b p - 16 → n ≡ newLength r → new ≡ nameRoom (newLength r)
+    → s ≡ spliced (p + 16) old len (part 56 new r) b → p + 2 ≤ length s → t ≡ putAt p (bytesOf 2 (16 + new)) s → u ≡ putAt (p + 2) (bytesOf 2 n) t → u ≡ renamedAt p len r b
+unfolding renamedAt
+name-put p len r b {old} {new} {n} {s} {t} {u} o m w e h f g =
+    g ∙ ap (putAt (p + 2) (bytesOf 2 n)) f ∙ put-lengths p (16 + new) n s h ∙ rw (e, o, m, w)
 
 -- An accepted file in a buffer, a well-formed record against which there is no reason, and the place of its read.
 pub record Ready (buffer : List ℕ) (len p : ℕ) (r : List ℕ) : Type 0 where
@@ -60,10 +67,11 @@ module _ {buffer : List ℕ} {len p : ℕ} {r : List ℕ} (s : Ready buffer len 
   pub ready-flows : number 2 28 buffer ≡ flows (take len buffer)
   ready-flows = let g = ready-header in number-inside buffer len r (s .inside) (s .bytes) (s .accepted) (s .formed) below 2 28 (omega arith)
 
+  pub ready-start : p + 16 ≤ length (take len buffer)
+  ready-start = rw (s .place-is) (fits-16 (flowCharacters (take len buffer)) (take len buffer) (readPlace (take len buffer) (position r)) (read-accepted (take len buffer) (position r) (s .accepted) below))
+
   pub ready-read : p + 16 ≤ len
-  ready-read =
-      let f = fits-16 (flowCharacters (take len buffer)) (take len buffer) (readPlace (take len buffer) (position r)) (read-accepted (take len buffer) (position r) (s .accepted) below) in
-      omega (arith, f, size, s .place-is)
+  ready-read = omega (arith, ready-start, size)
 
   at : p ≡ readPlace (take len buffer) (position r)
   at = s .place-is

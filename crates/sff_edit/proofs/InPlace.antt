@@ -1,34 +1,33 @@
 -- An edit in place leaves the file written afresh with the read changed or left out. Assumes nothing.
-use Prim.Native.Nat.{ℕ, suc, _+_, _-_, _*_, _≤_, _<_, max}
+use Prim.Native.Nat.{ℕ, _+_, _-_, _≤_, _<_, max}
 use mathlib.Core.Path.{_≡_, refl, sym, ap, _∙_}
 use mathlib.Core.Bool.{true, false}
 use mathlib.Core.Logic.{inl, inr}
 use mathlib.Core.List.{List, [], _∷_, _++_, append-assoc, append-nil}
 use native.Mathlib.Omega.{arith}
-use lib.ListN.{length, take, drop, replicate, length-append, length-take, length-drop, length-replicate}
+use lib.ListN.{length, take, drop, length-append, length-take, length-drop}
 use lib.Seq.{length-take-le, take-at, drop-at}
 use Rattle.octets.specs.Parts.{part, putAt, filled, settled, spliced, up8}
 use Rattle.octets.specs.Numbers.{Bytes, number, bytesOf, fields, words, wordsAt}
-use Rattle.octets.proofs.Lists.{length-put, part-take, length-part}
+use Rattle.octets.proofs.Lists.{length-put, put-over, part-take, length-part}
 use Rattle.octets.proofs.Digits.{length-bytesOf}
 use Rattle.octets.proofs.Stands.{stands-read, words-stand, length-words, length-fields, length-filled, field-filled}
 use Rattle.octets.proofs.Settled.{settled-front, settled-put, splice-settled}
 use Rattle.sff_format.specs.declared.Answer.the-variants.{Accepted}
 use Rattle.sff_format.specs.Model.{Read, noIndex, readFields, layoutReadHeader, layoutReadData, layoutRead, layout}
-use Rattle.sff_format.specs.HeaderTest.{readCount, flows, flowCharacters, headerLength}
+use Rattle.sff_format.specs.HeaderTest.{readCount, flows, flowCharacters}
 use Rattle.sff_format.specs.ReadTest.{sectionLength, nameLength, readEnd}
 use Rattle.sff_format.specs.FileTest.{fileTest}
 use Rattle.sff_format.specs.Parse.{parseRead, parse}
-use Rattle.sff_format.specs.Places.{readAt, replaced, place, readPlace}
-use Rattle.sff_format.proofs.Sizes.{length-head, length-header}
-use Rattle.sff_format.proofs.Appended.{put-over}
+use Rattle.sff_format.specs.Places.{replaced, place, readPlace}
+use Rattle.sff_format.proofs.Sizes.{length-header}
 use Rattle.sff_format.proofs.HeaderLaws.{fits-31}
 use Rattle.sff_format.proofs.FileLaid.{head-ok, ends, reads-counted}
 use Rattle.sff_format.proofs.ReadLaid.{fits-16, section-is, section-fits}
 use Rattle.sff_format.proofs.Places.{read-found, place-found, read-split, read-changed, read-gone}
 use Rattle.sff_format.proofs.Positions.{read-accepted}
-use Rattle.sff_correction.specs.Record.{position, newLength, newName, isClips, isRename, recordTest}
-use Rattle.sff_correction.specs.Edit.{clipped, renamed, target, edited}
+use Rattle.sff_correction.specs.Record.{position, newLength, isClips, isRename, recordTest}
+use Rattle.sff_correction.specs.Edit.{clipped, renamed, target}
 use Rattle.sff_correction.specs.Correct.{corrected, over}
 use Rattle.sff_correction.proofs.Records.{record-96, new-most, new-size, new-zeros}
 use Rattle.sff_correction.proofs.Edited.{edited-clips, edited-name, edited-none, edited-with, clipped-size}

@@ -1,1 +1,2 @@
 // Edits of a file in place.
+pub mod inner;

@@ -3,9 +3,9 @@ use Prim.Native.Nat.{ℕ, _+_, _-_}
 use mathlib.Core.Path.{_≡_, refl, sym, _∙_}
 use mathlib.Core.List.{List, [], _∷_, _++_, append-assoc, append-nil}
 use lib.ListN.{length, replicate, length-append}
-use lib.Seq.{take-append-seam, drop-append-seam, drop-append-add}
 use Rattle.octets.specs.Parts.{putAt, up8, filled}
 use Rattle.octets.specs.Numbers.{bytesOf, fields}
+use Rattle.octets.proofs.Lists.{put-over}
 use Rattle.octets.proofs.Digits.{length-bytesOf}
 use Rattle.octets.proofs.Stands.{length-fields}
 use Rattle.octets.proofs.Inserts.{insert-zero}
@@ -37,11 +37,6 @@ header-is f =
 header-split : (f : File) → layoutHeader f ≡ countLeft f ++ (bytesOf 4 (length (f .reads)) ++ countRight f)
 unfolding fields countLeft countRight headerFields
 header-split f = header-is f ∙ simp append-assoc
-
--- a write over as many bytes
-pub put-over : (us xs ys ws : List ℕ) → length xs ≡ length ys → putAt (length us) xs (us ++ (ys ++ ws)) ≡ us ++ (xs ++ ws)
-unfolding putAt
-put-over us xs ys ws e = rw (take-append-seam, e, drop-append-add, drop-append-seam) (append-assoc us xs ws)
 
 header-with : (f : File) (rs : List Read) → layoutHeader (withReads rs f) ≡ countLeft f ++ (bytesOf 4 (length rs) ++ countRight f)
 unfolding countLeft countRight

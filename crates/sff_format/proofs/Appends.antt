@@ -16,7 +16,7 @@ use Rattle.sff_format.specs.Rules.{declared, badIndex}
 use Rattle.sff_format.specs.Answer.{acceptedOr}
 use Rattle.sff_format.specs.Model.{Read, File, noIndex, layoutRead, layout, withReads}
 use Rattle.sff_format.specs.Valid.{ValidReads, Valid}
-use Rattle.sff_format.specs.HeaderTest.{indexOffset, indexLength, readCount, flowCharacters, headerLength, keyCharacters}
+use Rattle.sff_format.specs.HeaderTest.{indexOffset, indexLength, readCount, flowCharacters, keyCharacters}
 use Rattle.sff_format.specs.FileTest.{fileTest}
 use Rattle.sff_format.specs.Writing.{newFile, givenTest, openTest, appendTest, appendOutcome, appendBuffer, Lent}
 use Rattle.sff_format.proofs.Answers.{first-ok, second-ok, both-ok, when-ok, ok-when, under-ok, ok-under}

@@ -37,5 +37,6 @@ resize-spec =
     let tail : List ℕ = part (a .at + a .n) count (a .s .now) in
     let z : a .end - (a .at + a .size + count) ≡ a .n - a .size = omega arith in
     let len : length tail ≡ count = length-part (a .at + a .n) count (a .s .now) (omega arith) in
-    rw (c .before .before .before .before .before .before .move-down .ensures, z) at (c .before .before .fill .ensures)
-    ∙ put-next (a .at + a .size) count tail (replicate (a .n - a .size) 0) (a .s .now) len (omega arith)))
+    rw (← z)
+    (rw (c .before .before .before .before .before .before .move-down .ensures) at (c .before .before .fill .ensures)
+    ∙ put-next (a .at + a .size) count tail (replicate (a .end - (a .at + a .size + count)) 0) (a .s .now) len (omega arith))))

@@ -1,0 +1,13 @@
+use Rattle.sff_edit.specs.Edits.{removedAt}
+use borrow.Author.Needs.{needs}
+use Rattle.sff_edit.proofs.inner.take_out.Statement.{statement}
+use Rattle.sff_edit.proofs.inner.take_out.Tie as tie
+
+returns : tie.Need-returns
+unfolding removedAt
+returns c = (search needs, cc)
+
+pub take-out-spec : {M : Type 1} → statement M
+take-out-spec =
+    tie.close
+    (tie.spec (λ c κs. search needs) (λ c κs. search needs) (λ c. search needs) (λ c κs. search needs) (λ c. search needs) (λ c. search needs) returns)

@@ -29,7 +29,7 @@ within-ok least most n c q e =
 module _ (p n : ℕ) (r : List ℕ) (e : nameFieldTest p n r ≡ Accepted) where
   pub field-least : 1 ≤ n
   unfolding nameFieldTest
-  field-least = within-ok 1 40 n _ _ (first-ok _ _ e) .0
+  field-least = within-ok 1 _ n _ _ (first-ok _ _ e) .0
 
   pub field-most : n ≤ 40
   unfolding nameFieldTest
@@ -66,7 +66,7 @@ module _ (r : List ℕ) (e : recordTest r ≡ Accepted) where
 
   pub kind-low : 1 ≤ kind r
   unfolding recordTest
-  kind-low = within-ok 1 3 (kind r) _ _ (first-ok _ _ (second-ok _ _ e)) .0
+  kind-low = within-ok 1 _ (kind r) _ _ (first-ok _ _ (second-ok _ _ e)) .0
 
   pub kind-high : kind r ≤ 3
   unfolding recordTest

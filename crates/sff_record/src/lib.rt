@@ -35,7 +35,7 @@ fn name_field_test(record: &[u8], at: usize, n: usize) -> Answer
     if fails(ByteTest::NameByte, &record[at..end]) {
         return Answer::Refused(20, 0);
     }
-    unused_test(record, end, 40 - n)
+    unused_test(record, end, at + 40 - end)
 }
 
 // New clips, in kind 1 alone.

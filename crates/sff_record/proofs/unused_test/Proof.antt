@@ -1,4 +1,4 @@
-use Rattle.sff_record.proofs.Stretches.{unused-20, unused-ok}
+use Rattle.sff_record.proofs.Reasons.{unused-20, unused-ok}
 use borrow.Author.Needs.{needs}
 use Rattle.sff_record.proofs.unused_test.Statement.{statement}
 use Rattle.sff_record.proofs.unused_test.Tie as tie

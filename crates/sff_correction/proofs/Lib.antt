@@ -2,6 +2,7 @@
 pub mod Records
 -- What a record for which no reason holds makes of a file.
 pub mod Edited
+pub mod EditedSizes
 -- One correction; a list of them, and the claim over every list.
 pub mod Carried
 pub mod ListTurns

@@ -1,0 +1,1 @@
+// The reasons not to carry out a correction.

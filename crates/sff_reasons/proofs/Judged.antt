@@ -1,5 +1,5 @@
 -- The reasons against a record by what the code reads at the place of its read, one test after another. Assumes nothing.
-use Prim.Native.Nat.{ℕ, suc, _+_, _-_, _≤_, _<_}
+use Prim.Native.Nat.{ℕ, suc, _+_, _-_, _*_, _≤_, _<_}
 use mathlib.Core.Path.{_≡_, refl, sym, ap, _∙_}
 use mathlib.Core.Bool.{Bool, true, false, not, _&&_, _||_}
 use mathlib.Core.List.{List, [], _++_, append-nil}
@@ -34,19 +34,10 @@ use Rattle.sff_correction.specs.Reasons.{clipsAbove, others, bears, reasons}
 use Rattle.sff_correction.proofs.Records.{record-96, old-most, new-most, new-size}
 use Rattle.sff_correction.proofs.Edited.{no-index}
 use Rattle.sff_correction.proofs.EditedSizes.{clips-size, name-size, none-size}
-use Rattle.sff_reasons.specs.Plain.{Plain}
+use Rattle.sff_reasons.specs.Found.{Found, Plain}
 use Rattle.sff_reasons.proofs.Names.{bears-append, name-inside}
 
--- An accepted file, a well-formed record that names one of its reads, and the place of that read; the buffer holds the file.
-pub record Judged (room : ℕ) (b r : List ℕ) (p : ℕ) : Type 0 where
-  pub bytes : Bytes b
-  pub accepted : fileTest b ≡ Accepted
-  pub formed : recordTest r ≡ Accepted
-  pub below : position r < readCount b
-  pub place-is : p ≡ readPlace b (position r)
-  pub holds : length b ≤ room
-
-module _ {room : ℕ} {b r : List ℕ} {p : ℕ} (s : Judged room b r p) where
+module _ {room : ℕ} {b r : List ℕ} {p : ℕ} (s : Found room b r p) where
   there : readTest (flowCharacters b) b p ≡ Accepted
   there = rw (s .place-is) (read-accepted b (position r) (s .accepted) (s .below))
 
@@ -63,27 +54,27 @@ module _ {room : ℕ} {b r : List ℕ} {p : ℕ} (s : Judged room b r p) where
   valid = file-valid b (s .bytes) (s .accepted)
 
   -- what the code may read
-  pub judged-record : length r ≡ 96
-  judged-record = record-96 r (s .formed)
+  pub found-record : length r ≡ 96
+  found-record = record-96 r (s .formed)
 
-  pub judged-begins : p + 16 ≤ length b
-  judged-begins = fits-16 (flowCharacters b) b p there
+  pub found-begins : p + 16 ≤ length b
+  found-begins = fits-16 (flowCharacters b) b p there
 
-  pub judged-name : p + 16 + nameLength b p ≤ length b
-  judged-name = name-inside (flowCharacters b) b p there
+  pub found-name : p + 16 + nameLength b p ≤ length b
+  found-name = name-inside (flowCharacters b) b p there
 
   name-is : target r (parse b) .name ≡ part (p + 16) (nameLength b p) b
   unfolding parseRead
   name-is = rw read-is
 
   name-length : length (target r (parse b) .name) ≡ nameLength b p
-  name-length = ap length name-is ∙ length-part (p + 16) (nameLength b p) b judged-name
+  name-length = ap length name-is ∙ length-part (p + 16) (nameLength b p) b found-name
 
   bases-length : length (target r (parse b) .bases) ≡ baseCount b p
   unfolding parseRead
   bases-length =
       let f = rw (characters-length b (head-ok b (s .accepted))) at (data-fits (flowCharacters b) b p there) in
-      rw read-is (length-part _ (baseCount b p) b (omega arith))
+      rw read-is (length-part (p + sectionLength b p + 2 * flows b + baseCount b p) (baseCount b p) b (omega arith))
 
   index-is : declared (parse b .index .offset) (length (parse b .index .bytes)) ≡ declared (indexOffset b) (indexLength b)
   unfolding parse

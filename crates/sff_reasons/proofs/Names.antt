@@ -22,7 +22,7 @@ use Rattle.sff_format.proofs.ReadLaid.{fits-16, section-is, section-fits}
 use Rattle.sff_format.proofs.Steps.{read-fits}
 use Rattle.sff_correction.specs.Record.{newLength, newName}
 use Rattle.sff_correction.specs.Reasons.{bears}
-use Rattle.sff_reasons.specs.Plain.{Plain}
+use Rattle.sff_reasons.specs.Found.{Plain}
 
 -- names of two lengths differ
 pub names-differ : (from n p m : ℕ) (r b : List ℕ) → from + n ≤ length r → p + m ≤ length b → (n ≡ m → ⊥) → false ≡ same (part from n r) (part p m b)

@@ -1,5 +1,6 @@
--- What a well-formed record tells.
+-- What a well-formed record tells, and that its definition is the right one.
 pub mod Records
+pub mod RecordsLaid
 -- What a record for which no reason holds makes of a file.
 pub mod Edited
 pub mod EditedSizes

@@ -21,14 +21,14 @@ use Rattle.sff_format.specs.ReadTest.{sectionLength, nameLength, baseCount, cli
 use Rattle.sff_format.specs.FileTest.{fileTest}
 use Rattle.sff_format.specs.Parse.{parseRead, parseReads, parse}
 use Rattle.sff_format.specs.Places.{replaced, readPlace}
-use Rattle.sff_format.proofs.HeaderLaws.{header-fits, characters-length}
+use Rattle.sff_format.proofs.HeaderLaws.{fits-31, header-fits, characters-length}
 use Rattle.sff_format.proofs.Indexes.{index-length}
-use Rattle.sff_format.proofs.ReadLaid.{fits-16, section-is, data-fits}
+use Rattle.sff_format.proofs.ReadLaid.{fits-16, section-is, section-fits, data-fits}
 use Rattle.sff_format.proofs.FileLaid.{head-ok, reads-counted, index-passed, file-laid, file-valid}
 use Rattle.sff_format.proofs.Places.{read-found}
 use Rattle.sff_format.proofs.Positions.{read-accepted}
 use Rattle.sff_format.proofs.Runs.{reads-before, reads-after, before-accepted, after-accepted, after-inside}
-use Rattle.sff_correction.specs.Record.{kind, position, newLength, oldName, newName, newQualityLeft, newQualityRight, newAdapterLeft, newAdapterRight, isClips, isRename, recordTest}
+use Rattle.sff_correction.specs.Record.{kind, position, oldLength, newLength, oldName, newName, newQualityLeft, newQualityRight, newAdapterLeft, newAdapterRight, isClips, isRename, recordTest}
 use Rattle.sff_correction.specs.Edit.{target, edited}
 use Rattle.sff_correction.specs.Reasons.{clipsAbove, others, bears, reasons}
 use Rattle.sff_correction.proofs.Records.{record-96, old-most, new-most, new-size}
@@ -62,6 +62,18 @@ module _ {room : ℕ} {b r : List ℕ} {p : ℕ} (s : Found room b r p) where
 
   pub found-name : p + 16 + nameLength b p ≤ length b
   found-name = name-inside (flowCharacters b) b p there
+
+  pub found-section : sectionLength b p ≤ length b
+  found-section = let f = section-fits (flowCharacters b) b p there in omega arith
+
+  pub found-header : 31 ≤ length b
+  found-header = fits-31 b (head-ok b (s .accepted))
+
+  pub found-old : 16 + oldLength r ≤ length r
+  found-old = let n = found-record in let m = old-most r (s .formed) in omega arith
+
+  pub found-new : 56 + newLength r ≤ length r
+  found-new = let n = found-record in let m = new-most r (s .formed) in omega arith
 
   name-is : target r (parse b) .name ≡ part (p + 16) (nameLength b p) b
   unfolding parseRead

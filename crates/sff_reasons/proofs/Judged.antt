@@ -1,14 +1,12 @@
 -- The reasons against a record by what the code reads at the place of its read, one test after another. Assumes nothing.
 use Prim.Native.Nat.{ℕ, suc, _+_, _-_, _*_, _≤_, _<_}
-use mathlib.Core.Path.{_≡_, refl, sym, ap, _∙_}
-use mathlib.Core.Bool.{Bool, true, false, not, _&&_, _||_}
-use mathlib.Core.List.{List, [], _++_, append-nil}
+use mathlib.Core.Path.{_≡_, sym, ap, _∙_}
+use mathlib.Core.Bool.{Bool, true, false, _||_}
+use mathlib.Core.List.{List, _++_, append-nil}
 use native.Mathlib.Omega.{arith}
 use borrow.Author.Tests.{lt-ltb, le-ltb, eq-eqb, ne-eqb}
 use lib.ListN.{length, take, drop}
-use lib.Dec.{eqb, ltb}
 use Rattle.octets.specs.Parts.{part, same, up8}
-use Rattle.octets.specs.Numbers.{Bytes}
 use Rattle.octets.proofs.Lists.{length-part}
 use Rattle.sff_format.specs.declared.Answer.{Answer}
 use Rattle.sff_format.specs.declared.Answer.the-variants.{Accepted, Refused}
@@ -18,9 +16,7 @@ use Rattle.sff_format.specs.Model.{Read, noIndex, layout}
 use Rattle.sff_format.specs.Valid.{Valid}
 use Rattle.sff_format.specs.HeaderTest.{indexOffset, indexLength, readCount, headerLength, flows, flowCharacters}
 use Rattle.sff_format.specs.ReadTest.{sectionLength, nameLength, baseCount, clipTest, readTest, readEnd}
-use Rattle.sff_format.specs.FileTest.{fileTest}
 use Rattle.sff_format.specs.Parse.{parseRead, parseReads, parse}
-use Rattle.sff_format.specs.Places.{replaced, readPlace}
 use Rattle.sff_format.proofs.HeaderLaws.{fits-31, header-fits, characters-length}
 use Rattle.sff_format.proofs.Indexes.{index-length}
 use Rattle.sff_format.proofs.ReadLaid.{fits-16, section-is, section-fits, data-fits}
@@ -28,7 +24,7 @@ use Rattle.sff_format.proofs.FileLaid.{head-ok, reads-counted, index-passed, fi
 use Rattle.sff_format.proofs.Places.{read-found}
 use Rattle.sff_format.proofs.Positions.{read-accepted}
 use Rattle.sff_format.proofs.Runs.{reads-before, reads-after, before-accepted, after-accepted, after-inside}
-use Rattle.sff_correction.specs.Record.{kind, position, oldLength, newLength, oldName, newName, newQualityLeft, newQualityRight, newAdapterLeft, newAdapterRight, isClips, isRename, recordTest}
+use Rattle.sff_correction.specs.Record.{kind, position, oldLength, newLength, oldName, newName, newQualityLeft, newQualityRight, newAdapterLeft, newAdapterRight, isClips, isRename}
 use Rattle.sff_correction.specs.Edit.{target, edited}
 use Rattle.sff_correction.specs.Reasons.{clipsAbove, others, bears, reasons}
 use Rattle.sff_correction.proofs.Records.{record-96, old-most, new-most, new-size}

@@ -4,7 +4,6 @@ use mathlib.Core.Path.{_≡_, refl, sym, ap, _∙_}
 use mathlib.Core.Bool.{Bool, true, false, _||_}
 use mathlib.Core.List.{List, [], _∷_, _++_}
 use native.Mathlib.Omega.{arith}
-use borrow.Author.Needs.{needs}
 use lib.ListN.{length}
 use Rattle.octets.specs.Parts.{part, same}
 use Rattle.octets.proofs.Lists.{length-part}
@@ -20,7 +19,7 @@ use Rattle.sff_format.proofs.Answers.{first-ok, second-ok}
 use Rattle.sff_format.proofs.Boundaries.{here-done, boundary-read, parse-none, parse-read}
 use Rattle.sff_format.proofs.ReadLaid.{fits-16, section-is, section-fits}
 use Rattle.sff_format.proofs.Steps.{read-fits}
-use Rattle.sff_correction.specs.Record.{newLength, newName}
+use Rattle.sff_correction.specs.Record.{newName}
 use Rattle.sff_correction.specs.Reasons.{bears}
 use Rattle.sff_reasons.specs.Found.{Plain}
 

@@ -1,5 +1,5 @@
 use Prim.Native.Nat.{ℕ, _+_}
-use mathlib.Core.Path.{_≡_, sym, ap, _∙_}
+use mathlib.Core.Path.{sym, ap, _∙_}
 use Rattle.octets.specs.Parts.{part, same}
 use Rattle.sff_reasons.proofs.Names.{names-differ}
 use borrow.Author.Needs.{needs}

@@ -24,9 +24,9 @@ pub reason-spec : {M : Type 1} → statement M
 reason-spec =
     tie.close
     (tie.spec
-    (λ c. omega (arith, found-record (found (c .before .before ))))
+    (λ c. omega (arith, found-record (found (c .before .before))))
     (λ c κs. search needs)
-    (λ c κs. let s = found (c .before .before .before ) in (found-name s, rw (c .wide .ensures .0) (found-old s)))
-    (λ c κs. let s = found (c .before .before .before .before .before ) in (s, sym (rw (c .before .before .wide .ensures .0) at (c .before .has-name .ensures)) ∙ c .if1 .taken))
+    (λ c κs. let s = found (c .before .before .before) in (found-name s, rw (c .wide .ensures .0) (found-old s)))
+    (λ c κs. let s = found (c .before .before .before .before .before) in (s, sym (rw (c .before .before .wide .ensures .0) at (c .before .has-name .ensures)) ∙ c .if1 .taken))
     (λ c. search needs)
-    (λ c. reason-22 (found (c .before .before .before .before .before )) (rw (c .before .before .wide .ensures .0) at (c .before .has-name .ensures)) (c .if1 .left)))
+    (λ c. reason-22 (found (c .before .before .before .before .before)) (rw (c .before .before .wide .ensures .0) at (c .before .has-name .ensures)) (c .if1 .left)))

@@ -1,12 +1,10 @@
 use Prim.Native.Nat.{ℕ, suc, _+_, _-_}
 use mathlib.Core.Path.{_≡_, refl, sym, ap, _∙_}
-use mathlib.Core.List.{List}
 use native.Mathlib.Omega.{arith}
 use Rattle.octets.specs.Parts.{up8}
 use Rattle.sff_format.specs.HeaderTest.{readCount, headerLength, flows}
-use Rattle.sff_correction.specs.Record.{kind, position, newLength}
+use Rattle.sff_correction.specs.Record.{kind, position}
 use Rattle.sff_header.proofs.Fields.{length-of, reads-of, flows-of}
-use Rattle.sff_reasons.specs.Found.{Found, Plain}
 use Rattle.sff_reasons.proofs.Judged.{found-record, found-begins, found-section, found-new, plain-before, plain-after, reason-24, reason-24-after, reason-26, name-fine}
 use borrow.Author.Needs.{needs}
 use Rattle.sff_reasons.proofs.inner.rename_reason.Statement.{statement}
@@ -32,9 +30,10 @@ rename-reason-spec =
     (tie.spec
     (λ c κs. omega (arith, found-record (c .before .before .pre .0)))
     (λ c κs.
-    let d = c .before .before .before in
-    (rw (c .get32 .ensures .0) (plain-before (d .pre .0) (sym (d .pre .1 .0)) refl (no-clips d) (d .pre .1 .1 .1 .0) refl (long d)),
-      ((wide-flows d, d .pre .1 .1 .0 .1 .flows-small), found-new (d .pre .0))))
+    let d = c .before .before .before in (
+      rw (c .get32 .ensures .0) (plain-before (d .pre .0) (sym (d .pre .1 .0)) refl (no-clips d) (d .pre .1 .1 .1 .0) refl (long d)),
+      ((wide-flows d, d .pre .1 .1 .0 .1 .flows-small), found-new (d .pre .0)),
+    ))
     (λ c.
     let d = c .before .before .before .before .before in
     reason-24 (d .pre .0) (sym (d .pre .1 .0)) refl (no-clips d) (d .pre .1 .1 .1 .0) refl (d .pre .1 .1 .1 .1) (long d) (rw (c .before .before .get32 .ensures .0) at (c .before .bears-new-name .ensures)) (c .if1 .taken))
@@ -44,9 +43,10 @@ rename-reason-spec =
     let d = c .before .before .before .before .before .before .before in
     omega (arith, d .pre .0 .below, c .before .before .before .before .get32 .ensures .0, reads-of (d .args .header) (d .args .s .now) (d .pre .1 .1 .0 .0)))
     (λ c κs.
-    let d = c .before .before .before .before .before .before .before in
-    (plain-after (d .pre .0) (sym (d .pre .1 .0)) refl (no-clips d) (d .pre .1 .1 .1 .0) refl (rw (wide-flows d) at (c .before .read-end .ensures)) (following d _ (c .before .before .before .before .get32 .ensures .0)),
-      ((wide-flows d, d .pre .1 .1 .0 .1 .flows-small), found-new (d .pre .0))))
+    let d = c .before .before .before .before .before .before .before in (
+      plain-after (d .pre .0) (sym (d .pre .1 .0)) refl (no-clips d) (d .pre .1 .1 .1 .0) refl (rw (wide-flows d) at (c .before .read-end .ensures)) (following d _ (c .before .before .before .before .get32 .ensures .0)),
+      ((wide-flows d, d .pre .1 .1 .0 .1 .flows-small), found-new (d .pre .0)),
+    ))
     (λ c.
     let d = c .before .before .before .before .before .before .before .before .before in
     reason-24-after (d .pre .0) (sym (d .pre .1 .0)) refl (no-clips d) (d .pre .1 .1 .1 .0) refl (d .pre .1 .1 .1 .1) (long d) (rw (c .before .before .before .before .before .before .get32 .ensures .0) at (c .before .before .before .before .before .bears-new-name .ensures)) (c .before .before .before .before .if1 .left)

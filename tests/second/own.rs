@@ -3,6 +3,7 @@
 //! insert, the signal summary and the writers are in `own_calls`.
 
 mod calls;
+mod correcting;
 mod counts;
 mod inputs;
 mod own_calls;

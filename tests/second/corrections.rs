@@ -468,9 +468,10 @@ fn hold(random: &mut Random, model: &Model, may_be_wrong: bool) -> Held {
         _ => file.len() + spare,
     };
     let boundary = random.pick(&layout.boundaries());
-    let length = match may_be_wrong {
-        true => stated_length(random, file.len(), boundary, room),
-        false => file.len() as u64,
+    let length = if may_be_wrong {
+        stated_length(random, file.len(), boundary, room)
+    } else {
+        file.len() as u64
     };
     Held {
         is_sound: file == layout.bytes && length == file.len() as u64 && room >= file.len(),

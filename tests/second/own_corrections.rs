@@ -206,6 +206,26 @@ fn removals() {
     }
 }
 
+/// The file ends in a quality here, so that its last byte is not 0 before it is freed.
+#[test]
+fn every_freed_byte_becomes_0() {
+    let mut model = file_model(&[b"r1", b"a-name-of-17-byte"]);
+    for read in &mut model.reads {
+        read.increments = vec![1, 0, 0, 0, 0, 0, 0, 0];
+        read.bases = vec![b'T'; 8];
+        read.qualities = vec![255; 8];
+    }
+    let before = lay_out(&model).bytes;
+    assert_eq!(before.last(), Some(&255));
+    let old_name = model.reads[1].name.clone();
+    model.reads[1].name = b"r2".to_vec();
+    let record = Record::rename(1, &old_name, b"r2");
+    leaves(&before, 3, &record, &lay_out(&model).bytes);
+    model.reads.pop();
+    let record = Record::remove(1, &old_name);
+    leaves(&before, 3, &record, &lay_out(&model).bytes);
+}
+
 /// "Removal lowers the count at 20", over its bytes.
 #[test]
 fn removals_lower_the_count() {

@@ -3,7 +3,7 @@
 
 use crate::comparing::{holds, made, same, unchanged, Choices, Outcome};
 use crate::correcting::{self, RECORD};
-use crate::corrections::{correct_call, list_call, Record};
+use crate::corrections::{correct_call, list_call, Record, CLIPS, RENAME};
 use crate::counts::{self, Counts};
 use crate::exports::{self, Made, MadeByList};
 use crate::lent::Lent;
@@ -129,8 +129,8 @@ impl Corrections {
 /// The kind of a record that was carried out.
 fn kind(record: &[u8]) -> &'static str {
     match record[0] {
-        1 => "clips",
-        2 => "rename",
+        CLIPS => "clips",
+        RENAME => "rename",
         _ => "remove",
     }
 }

@@ -1,19 +1,20 @@
--- The demands on the file's test, on reading and on writing, each in the tender's words, over the definitions. That the code answers what a definition says is the promise of
--- `sff::file_test` (fileTest), of `Reader::fresh` and `step` (fresh, step), of `sff_insert` (fileInsert, fileFirst, fileLast) and of `sff_writer` (newOutcome and newBuffer, appendOutcome and
--- appendBuffer, of which writeEach is made). Assumes nothing.
-use Prim.Native.Nat.{ℕ, suc, _+_, _-_, _≤_, _<_}
-use mathlib.Core.Path.{_≡_, ap}
+-- The demands on the file's test, on reading, on writing and on corrections, each in the tender's words, over the definitions. That the code answers what a definition says is the promise of
+-- `sff::file_test` (fileTest), of `Reader::fresh` and `step` (fresh, step), of `sff_insert` (fileInsert, fileFirst, fileLast), of `sff_writer` (newOutcome and newBuffer, appendOutcome and
+-- appendBuffer, of which writeEach is made) and of `sff_corrector::correct` (correctOutcome, correctBuffer) and `correct_list` (runList). Assumes nothing.
+use Prim.Native.Nat.{ℕ, suc, _+_, _-_, _/_, _%_, _≤_, _<_, max}
+use mathlib.Core.Path.{_≡_, refl, sym, ap, _∙_}
 use mathlib.Core.Bool.{false}
 use mathlib.Core.Logic.{_↔_}
 use mathlib.Core.List.{List, [], _∷_, _++_}
+use native.Mathlib.Omega.{arith}
 use lib.ListN.{length, take, drop}
-use Rattle.octets.specs.Parts.{putAt}
-use Rattle.octets.specs.Numbers.{Bytes}
+use Rattle.octets.specs.Parts.{putAt, settled}
+use Rattle.octets.specs.Numbers.{Bytes, bytesOf}
 use Rattle.octets.proofs.AllBytes.{bytes-take}
 use Rattle.sff_format.specs.declared.Answer.the-variants.{Accepted, Refused}
 use Rattle.sff_format.specs.Answer.{numberOf, _then_}
 use Rattle.sff_format.specs.Rules.{declared}
-use Rattle.sff_format.specs.Model.{Read, File, noIndex, layoutRead, layout, withReads}
+use Rattle.sff_format.specs.Model.{Read, File, noIndex, layoutRead, layoutReads, layout, withReads}
 use Rattle.sff_format.specs.Valid.{ValidRead, Valid}
 use Rattle.sff_format.specs.HeaderTest.{indexOffset, indexLength, readCount, flowCharacters, keyCharacters}
 use Rattle.sff_format.specs.FileTest.{fileTest}
@@ -35,6 +36,19 @@ use Rattle.sff_format.proofs.Rewritten.{written-back, written-again}
 use Rattle.sff_format.proofs.Appends.{append-afresh, append-valid}
 use Rattle.sff_format.proofs.Refusals.{file-zero, step-zero, position-zero, signal-zero, new-zero, append-zero, written-zero}
 use Rattle.sff_format.proofs.Steps.{steps-end, reads-in-order, then-33}
+use Rattle.sff_correction.specs.Record.{position}
+use Rattle.sff_correction.specs.RecordLayout.{Correction, layoutRecord, ValidCorrection}
+use Rattle.sff_correction.specs.Edit.{instead, target, edited}
+use Rattle.sff_correction.specs.NoReason.{NoReason}
+use Rattle.sff_correction.specs.Correct.{correctTest, correctOutcome, correctBuffer}
+use Rattle.sff_correction.specs.ListRun.{ran, runList}
+use Rattle.sff_correction.specs.ListModel.{reasonFor, firstRefused, runOn}
+use Rattle.sff_correction.proofs.RecordsLaid.{record-exactly}
+use Rattle.sff_correction.proofs.EditedBytes.{sections-kept}
+use Rattle.sff_correction.proofs.NoReasons.{no-reason, correct-zero}
+use Rattle.sff_correction.proofs.Carried.{refused-outcome, refused-buffer, done-outcome, done-buffer, done-valid, done-accepted, test-inside, test-record, test-file, test-reasons, test-from-21}
+use Rattle.sff_correction.proofs.ListTurns.{list-20, list-none}
+use Rattle.sff_correction.proofs.ListClaim.{list-claim, first-most, none-before, one-at}
 
 -- "A file is accepted exactly if it keeps the SFF rules": if it is the layout of a file that keeps them, which is then one alone. Its number is then 0, and
 -- only then
@@ -142,3 +156,92 @@ pub append-refuses-exactly : (buffer : List ℕ) (len : ℕ) (r : Read) → Byte
 append-refuses-exactly buffer len r y t h e i n m =
     let a = append-exactly buffer len r y t h e i n m in
     ((λ z. a .0 (append-zero buffer len r z)), (λ k. ap numberOf (a .1 k)))
+
+-- Demand 3, one record. "Whatever bytes are lent as file and record and whatever length is stated: carried out with 0 exactly when no reason to refuse holds": the length is within the buffer (not 14), the
+-- record is the 96 bytes of a correction (not 20), the file keeps the rules (none of its own), and none of the record's own reasons holds (21, 22, 25, 23, 24, 26). "else the first that holds in
+-- document 01's order" is `correctTest`, which is the answer.
+pub corrected-exactly : (buffer : List ℕ) (len : ℕ) (r : List ℕ) → Bytes buffer → Bytes r
+    → (numberOf (correctOutcome buffer len r .answer) ≡ 0)
+    ↔ ((len ≤ length buffer) × ((c : Correction) × ValidCorrection c × (layoutRecord c ≡ r)) × ((f : File) × Valid f × (layout f ≡ take len buffer))
+    × NoReason (length buffer) r (parse (take len buffer)))
+unfolding correctOutcome
+corrected-exactly buffer len r y z = (
+  (
+      λ n.
+      let e = correct-zero buffer len r n in (
+        test-inside buffer len r e,
+        record-exactly r .0 (z, test-record buffer len r e),
+        accepted (take len buffer) .0 (bytes-take len buffer y, test-file buffer len r e),
+        no-reason (length buffer) r (parse (take len buffer)) .0 (test-reasons buffer len r e),
+      )
+      ),
+  (
+      λ t.
+      let q = record-exactly r .1 (t .1) in
+      let f = accepted (take len buffer) .1 (t .2) in
+      ap numberOf (test-from-21 buffer len r (t .0) (q .1) (f .1) ∙ no-reason (length buffer) r (parse (take len buffer)) .1 (t .3))
+      ),
+)
+
+pub answer-in-order : (buffer : List ℕ) (len : ℕ) (r : List ℕ) → correctOutcome buffer len r .answer ≡ correctTest buffer len r
+unfolding correctOutcome
+answer-in-order buffer len r = refl
+
+-- "A refused correction changes no byte of the file's buffer", and the length is "the length given"
+pub refused-unchanged : (buffer : List ℕ) (len : ℕ) (r : List ℕ) (n p : ℕ) → correctOutcome buffer len r .answer ≡ Refused n p
+    → (correctOutcome buffer len r ≡ record { answer = Refused n p; length = len }) × (correctBuffer buffer len r ≡ buffer)
+unfolding correctOutcome
+refused-unchanged buffer len r n p e = (refused-outcome buffer len r e, refused-buffer buffer len r e)
+
+-- "the result is byte for byte what writing afresh gives": the same header, any index and the same reads with that one changed or left out; then zeros up to the longer of the two lengths, and the
+-- rest of the buffer as it was. That file keeps the rules, so the next record meets an accepted file.
+pub corrected-afresh : (buffer : List ℕ) (len : ℕ) (r : List ℕ) → Bytes buffer → Bytes r → numberOf (correctOutcome buffer len r .answer) ≡ 0
+    → (correctOutcome buffer len r ≡ record { answer = Accepted; length = length (layout (edited r (parse (take len buffer)))) })
+    × (correctBuffer buffer len r ≡ settled (layout (edited r (parse (take len buffer)))) (max len (length (layout (edited r (parse (take len buffer)))))) buffer)
+    × Valid (edited r (parse (take len buffer)))
+    × (fileTest (take (correctOutcome buffer len r .length) (correctBuffer buffer len r)) ≡ Accepted)
+corrected-afresh buffer len r y z n =
+    let e = correct-zero buffer len r (ap numberOf (sym (answer-in-order buffer len r)) ∙ n) in
+    let w = bytes-take len buffer y in (
+      done-outcome buffer len r e,
+      done-buffer buffer len r e,
+      done-valid buffer len r e w z,
+      rw (done-outcome buffer len r e, done-buffer buffer len r e) (done-accepted buffer len r e w z),
+    )
+
+-- every other read's sections keep their bytes and their order: what stands before the read and after it is as it was, but for the count at 20
+pub other-reads-kept : (buffer : List ℕ) (len : ℕ) (r : List ℕ) → Bytes buffer → Bytes r → numberOf (correctOutcome buffer len r .answer) ≡ 0
+    → layout (edited r (parse (take len buffer)))
+    ≡ putAt 20 (bytesOf 4 (length (edited r (parse (take len buffer)) .reads)))
+    (
+    take (readPlace (take len buffer) (position r)) (take len buffer)
+    ++ (layoutReads (instead r (target r (parse (take len buffer)))) ++ drop (readPlace (take len buffer) (position r) + length (layoutRead (target r (parse (take len buffer))))) (take len buffer))
+    )
+other-reads-kept buffer len r y z n =
+    let e = correct-zero buffer len r (ap numberOf (sym (answer-in-order buffer len r)) ∙ n) in
+    sections-kept (length buffer) r (take len buffer) (bytes-take len buffer y) (test-file buffer len r e) (test-record buffer len r e) z (test-reasons buffer len r e)
+
+-- Demand 3, every list: "For every list of whole records: one claim on the whole answer and the whole buffer". On any accepted file those carried out are the records before the first for which a
+-- reason holds in its turn, or all; the count is how many; the answer is that reason, or none; the file is written afresh from the reads as these records, one after the other, have left them; behind
+-- it are zeros up to the greatest length that the file had, and then the buffer as it was.
+pub list-corrected : (buffer : List ℕ) (len : ℕ) (l : List ℕ) → Bytes buffer → Bytes l → len ≤ length buffer → fileTest (take len buffer) ≡ Accepted → length l % 96 ≡ 0
+    → runList buffer len l ≡ runOn (length l / 96) (firstRefused (length l / 96) 0 (length buffer) l (parse (take len buffer))) buffer l (parse (take len buffer))
+list-corrected = list-claim
+
+-- that number is the first for which a reason holds in its turn, or all
+pub first-of-list : (room : ℕ) (l : List ℕ) (f : File) (all : ℕ)
+    → (firstRefused all 0 room l f ≤ all)
+    × ((j : ℕ) → j < firstRefused all 0 room l f → reasonFor room j l f ≡ Accepted)
+    × (firstRefused all 0 room l f < all → reasonFor room (firstRefused all 0 room l f) l f ≡ Accepted → ⊥)
+first-of-list room l f all = (
+  (let h = first-most room l f all 0 in omega (arith, h)),
+  (λ j h. none-before room l f all 0 j (omega arith) h),
+  (λ h e. one-at room l f all 0 (omega (arith, h)) e),
+)
+
+-- "A list's length is a multiple of 96, else 20 before all else, with nothing done"; "An empty list is carried out with count 0, the file untested and the length as given"
+pub list-of-no-records : (buffer : List ℕ) (len : ℕ) (l : List ℕ) → (length l % 96 ≡ 0 → ⊥) → runList buffer len l ≡ ran 0 (Refused 20 0) len buffer
+list-of-no-records = list-20
+
+pub empty-list : (buffer : List ℕ) (len : ℕ) → runList buffer len [] ≡ ran 0 Accepted len buffer
+empty-list buffer len = list-none buffer len [] refl refl

@@ -1,7 +1,7 @@
 -- Every row of the table of marked cases holds, computed from the definitions. Assumes nothing.
 use mathlib.Core.Path.{refl}
-use Rattle.octets.specs.Parts.{wholePart, filled, insertAt}
-use Rattle.octets.specs.Numbers.{bigEndianFrom, number, bytesOf, fields, words}
+use Rattle.octets.specs.Parts.{wholePart, putAt, filled, insertAt, settled, same}
+use Rattle.octets.specs.Numbers.{bigEndianFrom, number, bytesOf, fields, words, wordsAt}
 use Rattle.octets.specs.Scans.{run, firstNot}
 use Rattle.sff_format.specs.Answer.{when, shifted, _then_, acceptedOr}
 use Rattle.sff_format.specs.Rules.{declared, badIndexLength, badIndex, indexSize, leftLimit, rightLimit, isFlow, walkRun, isCall, callRun}
@@ -9,12 +9,18 @@ use Rattle.sff_format.specs.Model.{headerFields, layoutHeader, readFields, layo
 use Rattle.sff_format.specs.HeaderTest.{fixedTest, charactersTest, headerTest}
 use Rattle.sff_format.specs.ReadTest.{nameTest, clipTest, basesTest, dataTest, readTest, readEnd}
 use Rattle.sff_format.specs.FileTest.{indexDue, passTest, indexTest, pastIndex, endTest, boundaryTest, fileTest}
+use Rattle.sff_format.specs.Parse.{parseRead, parseReads, parse}
 use Rattle.sff_format.specs.Places.{placeFrom, readPlace}
 use Rattle.sff_format.specs.Insert.{firstBase, rightEnd, lastBase}
 use Rattle.sff_format.specs.View.{viewAt}
 use Rattle.sff_format.specs.Position.{positionTest, insertStretch, fileInsert, fileFirst, fileLast}
+use Rattle.sff_correction.specs.Record.{nameFieldTest, unusedTest, newClipsTest, newNameTest, recordTest}
+use Rattle.sff_correction.specs.RecordLayout.{recordFields, layoutRecord}
+use Rattle.sff_correction.specs.Edit.{instead, edited}
+use Rattle.sff_correction.specs.Reasons.{clipsAbove, bears, reasons}
+use Rattle.sff_correction.specs.Correct.{correctTest, correctOutcome, correctBuffer}
 use Rattle.claims.specs.Marked.{All, table}
 
 pub marked : All table
-unfolding wholePart filled insertAt bigEndianFrom number bytesOf fields words run firstNot when shifted _then_ declared badIndexLength badIndex indexSize leftLimit rightLimit isFlow walkRun isCall callRun headerFields layoutHeader readFields layoutReadHeader layoutReadData layoutRead layoutReads layoutIndex layout fixedTest charactersTest headerTest nameTest clipTest basesTest dataTest readTest readEnd indexDue passTest indexTest pastIndex endTest boundaryTest fileTest placeFrom readPlace firstBase rightEnd lastBase viewAt positionTest acceptedOr insertStretch fileInsert fileFirst fileLast
-marked = (refl, (refl, (refl, ((refl, refl, refl), (refl, (refl, (refl, (refl, (refl, (refl, (refl, (refl, (refl, (refl, tt))))))))))))))
+unfolding wholePart putAt filled insertAt settled same bigEndianFrom number bytesOf fields words wordsAt run firstNot when shifted _then_ declared badIndexLength badIndex indexSize leftLimit rightLimit isFlow walkRun isCall callRun headerFields layoutHeader readFields layoutReadHeader layoutReadData layoutRead layoutReads layoutIndex layout fixedTest charactersTest headerTest nameTest clipTest basesTest dataTest readTest readEnd indexDue passTest indexTest pastIndex endTest boundaryTest fileTest parseRead parseReads parse placeFrom readPlace firstBase rightEnd lastBase viewAt positionTest acceptedOr insertStretch fileInsert fileFirst fileLast nameFieldTest unusedTest newClipsTest newNameTest recordTest recordFields layoutRecord instead edited clipsAbove bears reasons correctTest correctOutcome correctBuffer
+marked = (refl, (refl, (refl, ((refl, refl, refl), (refl, (refl, (refl, (refl, (refl, (refl, (refl, (refl, (refl, (refl, ((refl, refl), ((refl, refl), ((refl, refl), ((refl, refl), tt))))))))))))))))))

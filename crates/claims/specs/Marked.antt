@@ -1,26 +1,33 @@
 -- Document 01's "Checked examples" that are marked P, as one table. Assumes nothing: these are definitions.
 use Prim.Native.Nat.{ℕ}
 use mathlib.Core.Path.{_≡_}
-use mathlib.Core.List.{List, [], _∷_}
-use lib.ListN.{length, set, take}
+use mathlib.Core.List.{List, [], _∷_, _++_}
+use lib.ListN.{length, set, take, drop, replicate}
+use Rattle.octets.specs.Parts.{putAt}
 use Rattle.sff_format.specs.declared.Answer.{Answer}
 use Rattle.sff_format.specs.declared.Answer.the-variants.{Accepted, Refused}
+use Rattle.sff_format.specs.declared.Outcome.{Outcome}
 use Rattle.sff_format.specs.Model.{File, noIndex, layout}
 use Rattle.sff_format.specs.FileTest.{fileTest}
 use Rattle.sff_format.specs.Position.{fileInsert, fileFirst, fileLast}
+use Rattle.sff_correction.specs.RecordLayout.{Change, rename, remove, layoutRecord}
+use Rattle.sff_correction.specs.Correct.{correctOutcome, correctBuffer}
 
--- what a row says: a file is written so; these bytes are so many; the whole-file test answers so; the insert at a position goes from a base to a base and is so
+-- what a row says: a file is written so; these bytes are so many; the whole-file test answers so; the insert at a position goes from a base to a base and is so;
+-- a record corrects a file of that length in a buffer with that outcome, and leaves the buffer so
 pub data Case : Type 0 where
   written : File → List ℕ → Case
   sized : List ℕ → ℕ → Case
   tested : List ℕ → Answer → Case
   inserted : List ℕ → ℕ → ℕ → ℕ → List ℕ → Case
+  corrected : List ℕ → ℕ → List ℕ → Outcome → List ℕ → Case
 
 abbrev pub Holds : Case → Type 0
 Holds (written f b) = layout f ≡ b
 Holds (sized b n) = length b ≡ n
 Holds (tested b a) = fileTest b ≡ a
 Holds (inserted b i first last xs) = (fileFirst b i ≡ first) × (fileLast b i ≡ last) × (fileInsert b i ≡ xs)
+Holds (corrected b len r o c) = (correctOutcome b len r ≡ o) × (correctBuffer b len r ≡ c)
 
 abbrev pub All : List Case → Type 0
 All [] = Unit {0}
@@ -66,6 +73,27 @@ bareBytes =
     ∷ 0 ∷ 0 ∷ 0 ∷ 0 ∷ 0 ∷ 0 ∷ 0 ∷ 0 ∷ 0 ∷ 32 ∷ 0 ∷ 0 ∷ 0 ∷ 0 ∷ 1 ∷ 0
     ∷ []
 
+-- a record for r1, at position 0
+abbrev pub toR1 : Change → List ℕ
+toR1 change = layoutRecord (record { position = 0; old-name = 114 ∷ 49 ∷ []; change = change })
+
+-- names of 8 and of 9 bytes
+abbrev pub eight : List ℕ
+eight = 97 ∷ 98 ∷ 99 ∷ 100 ∷ 101 ∷ 102 ∷ 103 ∷ 104 ∷ []
+
+abbrev pub nine : List ℕ
+nine = eight ++ (105 ∷ [])
+
+-- E with the read named so: with 8 bytes the section stays as long, with 9 it has 8 bytes more
+abbrev pub eEight : List ℕ
+eEight = putAt 56 eight (set eBytes 43 8)
+
+abbrev pub eNine : List ℕ
+eNine = take 40 eBytes ++ (0 ∷ 32 ∷ 0 ∷ 9 ∷ []) ++ take 12 (drop 44 eBytes) ++ nine ++ replicate 7 0 ++ drop 64 eBytes
+
+abbrev pub done : ℕ → Outcome
+done n = record { answer = Accepted; length = n }
+
 abbrev pub table : List Case
 table =
     -- "E is 40+24+24 = 88 bytes; insert 2 to 3, CC"
@@ -78,4 +106,10 @@ table =
     ∷ tested (set eBytes 73 4) (Refused 10 73) ∷ tested (set eBytes 72 0) (Refused 10 72)
     -- "base T at flow 3 gives 11; N is accepted"
     ∷ tested (set eBytes 77 84) (Refused 11 77) ∷ tested (set eBytes 77 78) Accepted
+    -- "rename r1 to 8 bytes keeps 88, to 9 gives 96, and 26 in a 95-byte buffer"; what lies behind the file is as it was
+    ∷ corrected eBytes 88 (toR1 (rename eight)) (done 88) eEight
+    ∷ corrected (eBytes ++ replicate 12 7) 88 (toR1 (rename nine)) (done 96) (eNine ++ replicate 4 7)
+    ∷ corrected (eBytes ++ replicate 7 7) 88 (toR1 (rename nine)) (record { answer = Refused 26 0; length = 88 }) (eBytes ++ replicate 7 7)
+    -- "removing r1 leaves 40 bytes and 48 zeros"
+    ∷ corrected (eBytes ++ replicate 7 7) 88 (toR1 remove) (done 40) (set (take 40 eBytes) 23 0 ++ replicate 48 0 ++ replicate 7 7)
     ∷ []

@@ -22,9 +22,9 @@ use Rattle.sff_format.proofs.Answers.{first-ok, second-ok, when-ok, under-ok}
 use Rattle.sff_format.proofs.Sizes.{length-head, length-header}
 use Rattle.sff_format.proofs.Boundaries.{undeclared}
 use Rattle.sff_format.proofs.Keeps.{valid-at, valid-changed, valid-gone}
-use Rattle.sff_correction.specs.Record.{position, newQualityLeft, newQualityRight, newAdapterLeft, newAdapterRight, oldName, isClips, isRename, recordTest}
+use Rattle.sff_correction.specs.Record.{position, newQualityLeft, newQualityRight, newAdapterLeft, newAdapterRight, oldName, newName, isClips, isRename, recordTest}
 use Rattle.sff_correction.specs.Edit.{clipped, renamed, instead, target, edited}
-use Rattle.sff_correction.specs.Reasons.{clipsAbove, reasons}
+use Rattle.sff_correction.specs.Reasons.{clipsAbove, others, bears, reasons}
 use Rattle.sff_correction.proofs.Records.{new-most, new-good, new-size, new-clips-fit}
 
 -- a file whose index is not declared has none
@@ -93,6 +93,13 @@ module _ (room : ℕ) (r : List ℕ) (f : File) (e : reasons room r f ≡ Accept
   reasons-clips k = go (when-ok _ _ _ (first-ok _ _ (second-ok _ _ (second-ok _ _ (second-ok _ _ e)))))
     where
       go : (isClips r && clipsAbove (length (target r f .bases)) r) ≡ false → clipsAbove (length (target r f .bases)) r ≡ false
+      go d = rw k at d
+
+  pub reasons-names : isRename r ≡ true → bears (newName r) (others r f) ≡ false
+  unfolding reasons
+  reasons-names k = go (when-ok _ _ _ (first-ok _ _ (second-ok _ _ (second-ok _ _ (second-ok _ _ (second-ok _ _ e))))))
+    where
+      go : (isRename r && bears (newName r) (others r f)) ≡ false → bears (newName r) (others r f) ≡ false
       go d = rw k at d
 
   pub reasons-room : length (layout (edited r f)) ≤ room

@@ -4,6 +4,9 @@ pub mod RecordsLaid
 -- What a record for which no reason holds makes of a file.
 pub mod Edited
 pub mod EditedSizes
+pub mod EditedBytes
+-- A record is refused exactly if one of its reasons holds.
+pub mod NoReasons
 -- One correction; a list of them, and the claim over every list.
 pub mod Carried
 pub mod ListTurns

@@ -3,6 +3,7 @@ pub mod Record
 pub mod RecordLayout
 pub mod Edit
 pub mod Reasons
+pub mod NoReason
 pub mod Correct
 pub mod ListRun
 pub mod ListModel

@@ -18,20 +18,20 @@ use Rattle.sff_format.specs.Writing.{newTest, newOutcome, givenTest, ope
 use Rattle.sff_format.specs.Step.{State, boundary, indexPassed, readOrNone, stepTest}
 
 -- accepted, or refused with a number that is not 0
-abbrev Numbered : Answer → Type 0
+abbrev pub Numbered : Answer → Type 0
 Numbered Accepted = Unit {0}
 Numbered (Refused n p) = ltb 0 n ≡ true
 
-zero-accepted : (a : Answer) → Numbered a → numberOf a ≡ 0 → a ≡ Accepted
+pub zero-accepted : (a : Answer) → Numbered a → numberOf a ≡ 0 → a ≡ Accepted
 zero-accepted Accepted h e = refl
 zero-accepted (Refused n p) h e = let f : false ≡ true = rw e at h in let z : _≡_ {A = ℕ} 0 1 = cc in absurd (omega arith)
 
-then-numbered : (a b : Answer) → Numbered a → Numbered b → Numbered (a then b)
+pub then-numbered : (a b : Answer) → Numbered a → Numbered b → Numbered (a then b)
 unfolding _then_
 then-numbered Accepted b h k = k
 then-numbered (Refused n p) b h k = h
 
-when-numbered : (t : Bool) (n p : ℕ) → ltb 0 n ≡ true → Numbered (when t n p)
+pub when-numbered : (t : Bool) (n p : ℕ) → ltb 0 n ≡ true → Numbered (when t n p)
 unfolding when
 when-numbered true n p h = h
 when-numbered false n p h = tt
@@ -116,7 +116,7 @@ boundary-numbered b zero p q = then-numbered _ _ (index-numbered b p q) (end-num
 boundary-numbered b (suc n) p q =
     then-numbered _ _ (index-numbered b p q) (then-numbered _ _ (read-numbered (flowCharacters b) b _) (boundary-numbered b n _ _))
 
-file-numbered : (b : List ℕ) → Numbered (fileTest b)
+pub file-numbered : (b : List ℕ) → Numbered (fileTest b)
 unfolding fileTest
 file-numbered b = then-numbered _ _ (header-numbered b) (boundary-numbered b (readCount b) (headerLength b) false)
 

@@ -29,9 +29,10 @@ use Rattle.sff_correction.specs.Edit.{target, edited}
 use Rattle.sff_correction.specs.Reasons.{clipsAbove, others, bears, reasons}
 use Rattle.sff_correction.proofs.Records.{record-96, old-most, new-most, new-size}
 use Rattle.sff_correction.proofs.Edited.{no-index}
+use Rattle.sff_correction.proofs.NoReasons.{bears-append}
 use Rattle.sff_correction.proofs.EditedSizes.{clips-size, name-size, none-size}
 use Rattle.sff_reasons.specs.Found.{Found, Plain}
-use Rattle.sff_reasons.proofs.Names.{bears-append, name-inside}
+use Rattle.sff_reasons.proofs.Names.{name-inside}
 
 module _ {room : ℕ} {b r : List ℕ} {p : ℕ} (s : Found room b r p) where
   there : readTest (flowCharacters b) b p ≡ Accepted

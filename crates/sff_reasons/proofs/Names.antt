@@ -2,7 +2,7 @@
 use Prim.Native.Nat.{ℕ, suc, _+_, _-_, _≤_, _<_}
 use mathlib.Core.Path.{_≡_, refl, sym, ap, _∙_}
 use mathlib.Core.Bool.{Bool, true, false, _||_}
-use mathlib.Core.List.{List, [], _∷_, _++_}
+use mathlib.Core.List.{List}
 use native.Mathlib.Omega.{arith}
 use lib.ListN.{length}
 use Rattle.octets.specs.Parts.{part, same}
@@ -10,7 +10,6 @@ use Rattle.octets.proofs.Lists.{length-part}
 use Rattle.octets.proofs.Same.{same-lengths}
 use Rattle.sff_format.specs.declared.Answer.the-variants.{Accepted}
 use Rattle.sff_format.specs.Answer.{_then_}
-use Rattle.sff_format.specs.Model.{Read}
 use Rattle.sff_format.specs.HeaderTest.{flows, flowCharacters}
 use Rattle.sff_format.specs.ReadTest.{nameLength, readTest, readEnd}
 use Rattle.sff_format.specs.FileTest.{indexHere, boundaryTest}
@@ -29,15 +28,6 @@ names-differ from n p m r b h k d =
     let x = length-part from n r h in
     let z = length-part p m b k in
     sym (same-lengths (part from n r) (part p m b) (λ e. d (omega (arith, x, z, e))))
-
-pub bears-append : (name : List ℕ) (us ws : List Read) → bears name (us ++ ws) ≡ (bears name us || bears name ws)
-unfolding bears
-bears-append name [] ws = refl
-bears-append name (u ∷ us) ws = go (same name (u .name)) (bears-append name us ws)
-  where
-    go : (t : Bool) → bears name (us ++ ws) ≡ (bears name us || bears name ws) → (t || bears name (us ++ ws)) ≡ ((t || bears name us) || bears name ws)
-    go true e = refl
-    go false e = e
 
 -- the name of an accepted read lies in the file
 pub name-inside : (characters b : List ℕ) (p : ℕ) → readTest characters b p ≡ Accepted → p + 16 + nameLength b p ≤ length b

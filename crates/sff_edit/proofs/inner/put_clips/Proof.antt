@@ -1,0 +1,6 @@
+use borrow.Author.Needs.{needs}
+use Rattle.sff_edit.proofs.inner.put_clips.Statement.{statement}
+use Rattle.sff_edit.proofs.inner.put_clips.Tie as tie
+
+pub put-clips-spec : {M : Type 1} → statement M
+put-clips-spec = tie.close (tie.spec (λ c. search needs) (λ c κs. search needs) (λ c. search needs) (λ c. c .before .before .copy .ensures))

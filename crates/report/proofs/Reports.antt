@@ -13,7 +13,7 @@ use Rattle.text.specs.Writing.{Room, Wrote}
 use Rattle.text.proofs.Writing.{room, Put, nothing-put, text-put}
 use Rattle.lines.specs.Lines.{refusalLine, answerLine}
 use Rattle.lines.proofs.Lengths.{refusal-line-short, answer-line-short}
-use Rattle.report.specs.Report.{answered, refusal, reported, enough, reportedIn}
+use Rattle.report.specs.Report.{refusal, reported, enough, inRoom}
 
 refusal-short : (a : Answer) → length (refusal a) ≤ 64
 unfolding refusal
@@ -37,16 +37,16 @@ module _ (o : ListOutcome) where
   unfolding reported refusal
   reported-refused n p e = rw e
 
-  module _ (l : List ℕ) where
-    pub none-reported : length l < 256 → Put (reportedIn (length l) o) l l 0
-    unfolding reportedIn
-    none-reported h = rw (lt-ltb (length l) 256 h) (nothing-put l)
+  -- xs is what is printed
+  pub room-for : (l xs : List ℕ) → 256 ≤ length l → reported o ≡ xs → Room 0 xs l
+  room-for l xs h e = let s = report-short o in rw (← e) (room (omega arith))
 
-    -- xs is what is printed
-    module _ (h : 256 ≤ length l) (xs : List ℕ) (e : reported o ≡ xs) where
-      pub room-for : Room 0 xs l
-      room-for = let s = report-short o in rw (← e) (room (omega arith))
+-- ys is the text xs as the code puts it
+module _ (xs l : List ℕ) where
+  pub none-put : length l < 256 → Put (inRoom (length l) xs) l l 0
+  unfolding inRoom
+  none-put h = rw (lt-ltb (length l) 256 h) (nothing-put l)
 
-      pub all-reported : {l′ : List ℕ} {n : ℕ} → Wrote 0 xs l l′ n → Put (reportedIn (length l) o) l l′ n
-      unfolding reportedIn
-      all-reported w = rw (le-ltb (length l) 256 h, e) (text-put w room-for)
+  pub all-put : 256 ≤ length l → {ys : List ℕ} → xs ≡ ys → Room 0 ys l → {l′ : List ℕ} {n : ℕ} → Wrote 0 ys l l′ n → Put (inRoom (length l) xs) l l′ n
+  unfolding inRoom
+  all-put h e r w = rw (le-ltb (length l) 256 h, e) (text-put w r)

@@ -21,13 +21,13 @@ refusal (Refused n p) = refusalLine n p
 unfoldable pub reported : ListOutcome → List ℕ
 reported o = answered o ++ refusal (o .answer)
 
--- room for what is printed of any list run
+-- room for any text of this crate
 abbrev pub enough : ℕ
 enough = 256
 
--- what is printed where a buffer of that length has room for any of it, and else nothing
-unfoldable pub reportedIn : ℕ → ListOutcome → List ℕ
-reportedIn room o = cond (ltb room enough) [] (reported o)
+-- such a text where a buffer of that length has the room, and else nothing
+unfoldable pub inRoom : ℕ → List ℕ → List ℕ
+inRoom room xs = cond (ltb room enough) [] xs
 
 -- a new file is written where the list, or some of its records, were carried out
 unfoldable pub isWritten : ListOutcome → Bool

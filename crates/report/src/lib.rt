@@ -5,10 +5,11 @@ ghost use lib.ListN.{length};
 ghost use Rattle.octets.specs.Parts.{putAt};
 ghost use Rattle.io.specs.Counts.{Counts};
 ghost use Rattle.text.specs.Writing.{Room, Wrote};
-ghost use Rattle.lines.specs.Lines.{refusalLine, answerLine};
-ghost use Rattle.report.specs.Report.{reportedIn, isWritten};
+ghost use Rattle.lines.specs.Lines.{refusalLine, tooLong, answerLine};
+ghost use Rattle.report.specs.Report.{reported, inRoom, isWritten};
 use lines::inner::put_answer_line;
 use lines::inner::put_refusal_line;
+use lines::inner::put_too_long;
 use sff_correction::ListOutcome;
 use sff_format::Answer;
 
@@ -23,8 +24,8 @@ fn put_refused(out: &mut [u8], count: usize, number: usize, place: usize, size: 
 
 // Puts what is printed of a list run at the front of `out`, and answers how many bytes it has. It takes 256 bytes of room, enough for any; with less nothing is put.
 pub fn report(outcome: ListOutcome, out: &mut [u8]) -> usize
-    ensures { λ r. ⌜ r ≡ length (reportedIn (length (now (out .entry))) outcome) ⌝ }
-    ensures { λ _. ⌜ now (out .exit) ≡ putAt 0 (reportedIn (length (now (out .entry))) outcome) (now (out .entry)) ⌝ }
+    ensures { λ r. ⌜ r ≡ length (inRoom (length (now (out .entry))) (reported outcome)) ⌝ }
+    ensures { λ _. ⌜ now (out .exit) ≡ putAt 0 (inRoom (length (now (out .entry))) (reported outcome)) (now (out .entry)) ⌝ }
     ensures { λ r. ⌜ Counts r (now (out .exit)) ⌝ }
 {
     if out.len() < 256 {
@@ -37,7 +38,19 @@ pub fn report(outcome: ListOutcome, out: &mut [u8]) -> usize
     put_refused(out, outcome.count, number as usize, place, outcome.length)
 }
 
-// Room for what is printed of a list run.
+// Puts what is printed of a file or a list that is too long, with the same room.
+pub fn too_long(out: &mut [u8]) -> usize
+    ensures { λ r. ⌜ r ≡ length (inRoom (length (now (out .entry))) tooLong) ⌝ }
+    ensures { λ _. ⌜ now (out .exit) ≡ putAt 0 (inRoom (length (now (out .entry))) tooLong) (now (out .entry)) ⌝ }
+    ensures { λ r. ⌜ Counts r (now (out .exit)) ⌝ }
+{
+    if out.len() < 256 {
+        return 0;
+    }
+    put_too_long(out, 0)
+}
+
+// Room for what is printed.
 pub fn report_room() -> [u8; 256]
     ensures { λ r. ⌜ 256 ≡ length r ⌝ }
 {

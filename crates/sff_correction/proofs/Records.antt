@@ -94,6 +94,12 @@ module _ (r : List ℕ) (e : recordTest r ≡ Accepted) where
   pub old-most : oldLength r ≤ 40
   old-most = field-most 16 (oldLength r) r old-ok
 
+  pub old-good : Every isNameByte (oldName r)
+  old-good = field-good 16 (oldLength r) r old-ok
+
+  pub old-zeros : fails isZero (part (16 + oldLength r) (40 - oldLength r) r) ≡ false
+  old-zeros = field-zeros 16 (oldLength r) r old-ok
+
   -- a rename has a new name, and another kind none
   pub renames : isRename r ≡ true → nameFieldTest 56 (newLength r) r ≡ Accepted
   unfolding newNameTest

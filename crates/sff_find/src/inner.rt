@@ -9,11 +9,13 @@ ghost use Rattle.sff_format.specs.Places.{placeFrom, readPlace};
 ghost use Rattle.sff_format.specs.Position.{viewOf};
 ghost use Rattle.sff_header.specs.Header.{headerOf, Small};
 ghost use Rattle.sff_find.specs.Seek.{passedFrom, Ahead};
+ghost use Rattle.sff_find.specs.Mark.{Marked};
 use sff::inner::Boundary;
 use sff::inner::past_index;
 use sff_format::ReadView;
 use sff_header::Header;
 use sff_header::inner::header_fields;
+use sff_header::inner::is_declared;
 use sff_read::inner::read_end;
 use sff_read::inner::read_view;
 
@@ -50,6 +52,33 @@ pub fn find(s: &[u8], position: usize) -> usize
         passed: false,
     };
     seek(s, header, start, position).place
+}
+
+// A read whose place is known: its position, and where it starts.
+pub struct Mark {
+    pub position: usize,
+    pub place: usize,
+}
+
+// Where the read at a position of an accepted file starts, found from a read whose place is known, if that is not a later one.
+pub fn find_on(s: &[u8], from: Mark, position: usize) -> usize
+    requires { ⌜ fileTest (now s) ≡ Accepted ⌝ }
+    requires { ⌜ position < readCount (now s) ⌝ }
+    requires { ⌜ Marked (now s) from ⌝ }
+    ensures { λ r. ⌜ (r ≡ readPlace (now (s .entry)) position) × (r + 16 ≤ length (now (s .entry))) ⌝ }
+{
+    let known = from.position;
+    if position < known {
+        return find(s, position);
+    }
+    let header = header_fields(s);
+    let passed = is_declared(header.index_offset, header.index_length)
+        & (header.index_offset < from.place);
+    let start = Boundary {
+        place: from.place,
+        passed,
+    };
+    seek(s, header, start, position - known).place
 }
 
 // What the read at a position of an accepted file says.

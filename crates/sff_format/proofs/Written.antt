@@ -19,7 +19,7 @@ and-right : (s t : Bool) → (s && t) ≡ true → t ≡ true
 and-right true t e = e
 and-right false t e = absurd (let z : _≡_ {A = ℕ} 0 1 = cc in let a : ⊥ = omega arith in a)
 
-name-small : (x : ℕ) → isNameByte x ≡ true → x < 256
+pub name-small : (x : ℕ) → isNameByte x ≡ true → x < 256
 name-small x e = let l = leb-true x 126 (and-right (leb 33 x) (leb x 126) e) in omega arith
 
 base-small : (x : ℕ) → isFlowCharacter x ≡ true → x < 256

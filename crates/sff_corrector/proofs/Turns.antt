@@ -1,0 +1,198 @@
+-- One record after another: what a carried-out record leaves for the next, and the loop over a list. Assumes nothing.
+use Prim.Native.Nat.{ℕ, suc, _+_, _-_, _*_, _/_, _%_, _≤_, _<_}
+use mathlib.Core.Path.{_≡_, refl, sym, ap, _∙_}
+use mathlib.Core.List.{List}
+use native.Mathlib.Omega.{arith}
+use native.Mathlib.Numerals.{add-one}
+use borrow.Author.Tests.{lt-ltb, le-ltb}
+use lib.ListN.{length, take}
+use Rattle.octets.specs.Numbers.{Bytes}
+use Rattle.octets.proofs.AllBytes.{bytes-take}
+use Rattle.octets.proofs.Stands.{number-small}
+use Rattle.sff_format.specs.declared.Answer.{Answer}
+use Rattle.sff_format.specs.declared.Answer.the-variants.{Accepted, Refused}
+use Rattle.sff_format.specs.declared.Outcome.{Outcome}
+use Rattle.sff_format.specs.Answer.{when, _then_}
+use Rattle.sff_format.specs.HeaderTest.{readCount}
+use Rattle.sff_format.specs.FileTest.{fileTest}
+use Rattle.sff_format.specs.Parse.{parse}
+use Rattle.sff_format.specs.Places.{place, readPlace}
+use Rattle.sff_format.proofs.HeaderLaws.{fits-31}
+use Rattle.sff_format.proofs.FileLaid.{head-ok, reads-counted}
+use Rattle.sff_format.proofs.Written.{layout-bytes}
+use Rattle.sff_format.proofs.Places.{place-found}
+use Rattle.sff_find.specs.declared.inner.Mark.{Mark}
+use Rattle.sff_find.specs.Mark.{Marked}
+use Rattle.sff_correction.specs.declared.ListOutcome.{ListOutcome}
+use Rattle.sff_correction.specs.Record.{position, recordTest}
+use Rattle.sff_correction.specs.Edit.{edited}
+use Rattle.sff_correction.specs.Reasons.{reasons}
+use Rattle.sff_correction.specs.Correct.{correctTest, corrected, correctOutcome, over, correctBuffer}
+use Rattle.sff_correction.specs.ListRun.{recordAt, Run, ran, turns, runList}
+use Rattle.sff_correction.proofs.Edited.{reasons-position, place-kept}
+use Rattle.sff_correction.proofs.Carried.{refused-outcome, refused-buffer, done-outcome, done-buffer, done-fits, done-length, done-front, done-valid, done-accepted, done-parsed, test-file, test-reasons, test-from-20, test-from-file, test-from-21}
+use Rattle.sff_correction.proofs.ListTurns.{turn-on, turn-stop, list-20, list-run, list-none}
+use Rattle.sff_corrector.specs.declared.Carried.{Carried}
+use Rattle.sff_corrector.specs.declared.Carried.the-variants.{Out, Stopped}
+use Rattle.sff_corrector.specs.Carried.{outcomeOf, Ready, Onward}
+
+-- no position of a read is that large, so nothing is known by such a mark
+pub nowhere : (b : List ℕ) → Bytes b → fileTest b ≡ Accepted → Marked b (record { position = 4294967296; place = 0 })
+nowhere b y e = record {
+  known = λ h.
+      let f = fits-31 b (head-ok b e) in
+      let n : readCount b < 4294967296 = number-small 4 20 b y (omega arith) in
+      absurd (let a : ⊥ = omega (arith, h, n) in a);
+}
+
+-- what is told of a record that is refused
+module _ (buffer : List ℕ) (len : ℕ) (r : List ℕ) where
+  pub stopped : {n p : ℕ} → Refused n p ≡ correctTest buffer len r
+      → (record { answer = Refused n p; length = len } ≡ correctOutcome buffer len r) × (buffer ≡ correctBuffer buffer len r)
+  stopped e = (sym (refused-outcome buffer len r (sym e)), sym (refused-buffer buffer len r (sym e)))
+
+  pub stop-14 : length buffer < len → Refused 14 0 ≡ correctTest buffer len r
+  unfolding correctTest _then_ when
+  stop-14 h = rw (lt-ltb (length buffer) len h)
+
+  module _ (h : len ≤ length buffer) where
+    pub stop-20 : {n p : ℕ} {a : Answer} → a ≡ recordTest r → a ≡ Refused n p → Refused n p ≡ correctTest buffer len r
+    unfolding _then_
+    stop-20 e t = sym (test-from-20 buffer len r h ∙ rw (← e, t))
+
+    module _ (q : recordTest r ≡ Accepted) where
+      pub stop-file : {n p : ℕ} {a : Answer} → a ≡ fileTest (take len buffer) → a ≡ Refused n p → Refused n p ≡ correctTest buffer len r
+      unfolding _then_
+      stop-file e t = sym (test-from-file buffer len r h q ∙ rw (← e, t))
+
+      module _ (t : fileTest (take len buffer) ≡ Accepted) where
+        pub stop-21 : readCount (take len buffer) ≤ position r → Refused 21 0 ≡ correctTest buffer len r
+        unfolding reasons _then_ when
+        stop-21 g = sym (test-from-21 buffer len r h q t ∙ rw (reads-counted (take len buffer), le-ltb (position r) (readCount (take len buffer)) g))
+
+        pub reasons-are : {a : Answer} → a ≡ reasons (length buffer) r (parse (take len buffer)) → a ≡ correctTest buffer len r
+        reasons-are e = e ∙ sym (test-from-21 buffer len r h q t)
+
+  -- what is told of one that is carried out, and what it leaves for the next
+  module _ (e : Accepted ≡ correctTest buffer len r) where
+    pub done : {n : ℕ} {b : List ℕ} → n ≡ length (corrected buffer len r) → b ≡ over (corrected buffer len r) len buffer
+        → (record { answer = Accepted; length = n } ≡ correctOutcome buffer len r) × (b ≡ correctBuffer buffer len r)
+    done m f = (rw m (sym (done-outcome buffer len r (sym e))), f ∙ sym (done-buffer buffer len r (sym e)))
+
+    module _ (y : Bytes buffer) (z : Bytes r) where
+      bytes : Bytes (take len buffer)
+      bytes = bytes-take len buffer y
+
+      accepted : fileTest (corrected buffer len r) ≡ Accepted
+      accepted = rw (done-front buffer len r (sym e)) at (done-accepted buffer len r (sym e) bytes z)
+
+      parsed : parse (corrected buffer len r) ≡ edited r (parse (take len buffer))
+      parsed = rw (done-front buffer len r (sym e)) at (done-parsed buffer len r (sym e) bytes z)
+
+      below : position r < length (parse (take len buffer) .reads)
+      below = reasons-position (length buffer) r (parse (take len buffer)) (test-reasons buffer len r (sym e))
+
+      -- what stands before the read stays, so where it starts does
+      place-same : position r < readCount (corrected buffer len r) → readPlace (take len buffer) (position r) ≡ readPlace (corrected buffer len r) (position r)
+      place-same h =
+          let b = below in
+          place-found (take len buffer) bytes (test-file buffer len r (sym e)) (position r) (rw (reads-counted (take len buffer)) at b)
+          ∙ sym
+          (
+          place-found (corrected buffer len r) (layout-bytes (edited r (parse (take len buffer))) (done-valid buffer len r (sym e) bytes z)) accepted (position r) h
+          ∙ rw parsed (place-kept r (parse (take len buffer)) (omega arith))
+          )
+
+      pub ready : {n : ℕ} {b : List ℕ} {q i : ℕ} → n ≡ length (corrected buffer len r) → b ≡ over (corrected buffer len r) len buffer → i ≡ position r
+          → q ≡ readPlace (take len buffer) i → Ready b n (record { position = i; place = q })
+      ready {n} {b} {q} {i} m f k g =
+          rw (m, f)
+          (
+          record {
+            inside = rw (done-length buffer len r (sym e)) (done-fits buffer len r (sym e));
+            accepted = done-accepted buffer len r (sym e) bytes z;
+            marked = rw (done-front buffer len r (sym e)) (record { known = λ h. g ∙ rw k (place-same (rw k at h)) });
+          }
+          )
+
+  -- the answer in what is told
+  answer-told : (v : Carried) → outcomeOf len v ≡ correctOutcome buffer len r → outcomeOf len v .answer ≡ correctTest buffer len r
+  unfolding correctOutcome
+  answer-told v e = ap (λ (o : Outcome). o .answer) e
+
+-- The invariant of the loop over a list: k records are carried out, and what is to come is the rest.
+pub record Going (n : ℕ) (b₀ : List ℕ) (len₀ : ℕ) (l b : List ℕ) (k len : ℕ) (m : Mark) : Type 0 where
+  pub low : k ≤ n
+  pub whole : 96 * n ≤ length l
+  pub same : length b ≡ length b₀
+  pub ready : Ready b len m
+  pub is : turns (n - 1) 1 b₀ len₀ l ≡ turns (n - k) k b len l
+
+pub going-start : (n : ℕ) (b : List ℕ) (len : ℕ) (l : List ℕ) (m : Mark) → 1 ≤ n → 96 * n ≤ length l → Ready b len m → Going n b len l b 1 len m
+going-start n b len l m h w s = record { low = h; whole = w; same = refl; ready = s; is = refl }
+
+-- what a run told so far
+told : {count : ℕ} {a : Answer} {len : ℕ} {b : List ℕ} {t : Run} → t ≡ ran count a len b → (record { count = count; answer = a; length = len } ≡ t .outcome) × (b ≡ t .buffer)
+told e = (sym (ap (λ (x : Run). x .outcome) e), sym (ap (λ (x : Run). x .buffer) e))
+
+module _ {n : ℕ} {b₀ : List ℕ} {len₀ : ℕ} {l b : List ℕ} {k len : ℕ} {m : Mark} (g : Going n b₀ len₀ l b k len m) where
+  pub going-done : n ≤ k → (record { count = k; answer = Accepted; length = len } ≡ turns (n - 1) 1 b₀ len₀ l .outcome) × (b ≡ turns (n - 1) 1 b₀ len₀ l .buffer)
+  unfolding turns
+  going-done h = let z : n - k ≡ 0 = omega arith in told (g .is ∙ rw z)
+
+  pub going-room : k < n → 96 * k + 96 ≤ length l
+  going-room h = let w = g .whole in omega arith
+
+  module _ (h : k < n) (v : Carried) {b′ : List ℕ} (e : outcomeOf len v ≡ correctOutcome b len (recordAt k l)) (f : b′ ≡ correctBuffer b len (recordAt k l)) where
+    next : n - k ≡ suc (n - (k + 1))
+    next = omega arith
+
+    pub going-more : {x : ℕ} {m′ : Mark} → v ≡ Out x m′ → Onward b′ v → Going n b₀ len₀ l b′ (k + 1) x m′
+    going-more {x} {m′} c o =
+        let r : List ℕ = recordAt k l in
+        let t : correctTest b len r ≡ Accepted = sym (answer-told b len r v e) ∙ ap (λ (w : Carried). outcomeOf len w .answer) c in
+        let d : x ≡ length (corrected b len r) = ap (λ (o : Outcome). o .length) (sym (ap (outcomeOf len) c) ∙ e ∙ done-outcome b len r t) in
+        let eb : b′ ≡ over (corrected b len r) len b = f ∙ done-buffer b len r t in
+        let u : turns (n - k) k b len l ≡ turns (n - (k + 1)) (k + 1) b′ x l =
+        ap (λ (i : ℕ). turns i k b len l) next ∙ turn-on (n - (k + 1)) k b len l t ∙ rw (d, eb, add-one k) in
+        record { low = omega arith; whole = g .whole; same = ap length eb ∙ done-length b len r t ∙ g .same; ready = rw c at o; is = g .is ∙ u }
+
+    pub going-stop : {x p : ℕ} → v ≡ Stopped x p
+        → (record { count = k; answer = Refused x p; length = len } ≡ turns (n - 1) 1 b₀ len₀ l .outcome) × (b′ ≡ turns (n - 1) 1 b₀ len₀ l .buffer)
+    going-stop {x} {p} c =
+        let r : List ℕ = recordAt k l in
+        let t : correctTest b len r ≡ Refused x p = sym (answer-told b len r v e) ∙ ap (λ (w : Carried). outcomeOf len w .answer) c in
+        let eb : b′ ≡ b = f ∙ refused-buffer b len r t in
+        told (g .is ∙ ap (λ (i : ℕ). turns i k b len l) next ∙ turn-stop (n - (k + 1)) k b len l x p t ∙ ap (ran k (Refused x p) len) (sym eb))
+
+-- a list before its loop
+module _ (b : List ℕ) (len : ℕ) (l : List ℕ) where
+  pub list-20-told : (length l % 96 ≡ 0 → ⊥) → (record { count = 0; answer = Refused 20 0; length = len } ≡ runList b len l .outcome) × (b ≡ runList b len l .buffer)
+  list-20-told h = told (list-20 b len l h)
+
+  module _ (w : length l % 96 ≡ 0) where
+    pub list-none-told : length l / 96 ≡ 0 → (record { count = 0; answer = Accepted; length = len } ≡ runList b len l .outcome) × (b ≡ runList b len l .buffer)
+    list-none-told z = told (list-none b len l w z)
+
+    module _ (z : length l / 96 ≡ 0 → ⊥) (v : Carried) {b′ : List ℕ} (e : outcomeOf len v ≡ correctOutcome b len (recordAt 0 l)) (f : b′ ≡ correctBuffer b len (recordAt 0 l)) where
+      some : length l / 96 ≡ suc (length l / 96 - 1)
+      some = omega arith
+
+      pub first-stop : {x p : ℕ} → v ≡ Stopped x p → (record { count = 0; answer = Refused x p; length = len } ≡ runList b len l .outcome) × (b′ ≡ runList b len l .buffer)
+      first-stop {x} {p} c =
+          let r : List ℕ = recordAt 0 l in
+          let t : correctTest b len r ≡ Refused x p = sym (answer-told b len r v e) ∙ ap (λ (w : Carried). outcomeOf len w .answer) c in
+          let eb : b′ ≡ b = f ∙ refused-buffer b len r t in
+          told (list-run b len l w ∙ ap (λ (i : ℕ). turns i 0 b len l) some ∙ turn-stop (length l / 96 - 1) 0 b len l x p t ∙ ap (ran 0 (Refused x p) len) (sym eb))
+
+      first-on : {x : ℕ} {m : Mark} → v ≡ Out x m → runList b len l ≡ turns (length l / 96 - 1) 1 b′ x l
+      first-on {x} {m} c =
+          let r : List ℕ = recordAt 0 l in
+          let t : correctTest b len r ≡ Accepted = sym (answer-told b len r v e) ∙ ap (λ (w : Carried). outcomeOf len w .answer) c in
+          let d : x ≡ length (corrected b len r) = ap (λ (o : Outcome). o .length) (sym (ap (outcomeOf len) c) ∙ e ∙ done-outcome b len r t) in
+          let eb : b′ ≡ over (corrected b len r) len b = f ∙ done-buffer b len r t in
+          list-run b len l w ∙ ap (λ (i : ℕ). turns i 0 b len l) some ∙ turn-on (length l / 96 - 1) 0 b len l t ∙ rw (d, eb)
+
+      pub first-run : {x : ℕ} {m : Mark} {o : ListOutcome} {b″ : List ℕ} → v ≡ Out x m → o ≡ turns (length l / 96 - 1) 1 b′ x l .outcome → b″ ≡ turns (length l / 96 - 1) 1 b′ x l .buffer
+          → (o ≡ runList b len l .outcome) × (b″ ≡ runList b len l .buffer)
+      first-run c d g = let t = first-on c in (d ∙ sym (ap (λ (x : Run). x .outcome) t), g ∙ sym (ap (λ (x : Run). x .buffer) t))

@@ -1,0 +1,171 @@
+// Corrections of a file in place: by one record, and by a list of them. All reasons to refuse a record are judged before it changes a byte.
+ghost use mathlib.Core.Path.{_≡_};
+ghost use Prim.Native.Nat.{_+_, _-_, _*_, _≤_, _<_};
+ghost use lib.ListN.{length, take};
+ghost use Rattle.octets.specs.Parts.{part};
+ghost use Rattle.sff_format.specs.declared.Answer.the-variants.{Accepted};
+ghost use Rattle.sff_format.specs.FileTest.{fileTest};
+ghost use Rattle.sff_correction.specs.Record.{recordTest};
+ghost use Rattle.sff_correction.specs.Correct.{correctOutcome, correctBuffer};
+ghost use Rattle.sff_correction.specs.ListRun.{turns, runList};
+ghost use Rattle.sff_corrector.specs.Carried.{outcomeOf, Ready, Onward};
+use octets::get32;
+use sff::file_test;
+use sff_correction::ListOutcome;
+use sff_edit::inner::apply;
+use sff_find::inner::Mark;
+use sff_find::inner::find_on;
+use sff_format::Answer;
+use sff_format::Outcome;
+use sff_reasons::inner::reason;
+use sff_record::record_test;
+
+// What came of a record: the file's length afterwards, with the place of its read, or the refusal.
+enum Carried {
+    Out(usize, Mark),
+    Stopped(u8, usize),
+}
+
+// 21 and what comes after it: a well-formed record on an accepted file. The walk to its read goes on from the one that is marked.
+fn carry_out(buffer: &mut [u8], len: usize, record: &[u8], from: Mark) -> Carried
+    requires { ⌜ Ready (now buffer) len from ⌝ }
+    requires { ⌜ recordTest (now «record») ≡ Accepted ⌝ }
+    ensures { λ v. ⌜ outcomeOf len v ≡ correctOutcome (now (buffer .entry)) len (now («record» .entry)) ⌝ }
+    ensures { λ v. ⌜ now (buffer .exit) ≡ correctBuffer (now (buffer .entry)) len (now («record» .entry)) ⌝ }
+    ensures { λ v. ⌜ Onward (now (buffer .exit)) v ⌝ }
+{
+    let room = buffer.len();
+    let position = get32(record, 4);
+    if position >= get32(&buffer[..len], 20) {
+        return Carried::Stopped(21, 0);
+    }
+    let place = find_on(&buffer[..len], from, position);
+    let answer = reason(&buffer[..len], room, place, record);
+    if let Answer::Refused(number, at) = answer {
+        return Carried::Stopped(number, at);
+    }
+    let length = apply(buffer, len, place, record);
+    Carried::Out(length, Mark { position, place })
+}
+
+// A record on a file that was not tested yet: 14, 20, the file's refusal, and the rest.
+fn carry_first(buffer: &mut [u8], len: usize, record: &[u8]) -> Carried
+    ensures { λ v. ⌜ outcomeOf len v ≡ correctOutcome (now (buffer .entry)) len (now («record» .entry)) ⌝ }
+    ensures { λ v. ⌜ now (buffer .exit) ≡ correctBuffer (now (buffer .entry)) len (now («record» .entry)) ⌝ }
+    ensures { λ v. ⌜ Onward (now (buffer .exit)) v ⌝ }
+{
+    if len > buffer.len() {
+        return Carried::Stopped(14, 0);
+    }
+    if let Answer::Refused(number, at) = record_test(record) {
+        return Carried::Stopped(number, at);
+    }
+    if let Answer::Refused(number, at) = file_test(&buffer[..len]) {
+        return Carried::Stopped(number, at);
+    }
+    // No file has a read at this position: the walk starts at the header's end.
+    let nowhere = Mark {
+        position: 4294967296,
+        place: 0,
+    };
+    carry_out(buffer, len, record, nowhere)
+}
+
+// A further record of a list, which stands in it at `at`: the record before it has left an accepted file.
+fn carry_next(buffer: &mut [u8], len: usize, list: &[u8], at: usize, from: Mark) -> Carried
+    requires { ⌜ Ready (now buffer) len from ⌝ }
+    requires { ⌜ at + 96 ≤ length (now list) ⌝ }
+    ensures { λ v. ⌜ outcomeOf len v ≡ correctOutcome (now (buffer .entry)) len (part at 96 (now (list .entry))) ⌝ }
+    ensures { λ v. ⌜ now (buffer .exit) ≡ correctBuffer (now (buffer .entry)) len (part at 96 (now (list .entry))) ⌝ }
+    ensures { λ v. ⌜ Onward (now (buffer .exit)) v ⌝ }
+{
+    let end = at + 96;
+    if let Answer::Refused(number, place) = record_test(&list[at..end]) {
+        return Carried::Stopped(number, place);
+    }
+    carry_out(buffer, len, &list[at..end], from)
+}
+
+// The n records of a list from the second on, where the first was carried out.
+fn run(buffer: &mut [u8], len: usize, list: &[u8], n: usize, first: Mark) -> ListOutcome
+    requires { ⌜ Ready (now buffer) len first ⌝ }
+    requires { ⌜ (1 ≤ n) × (96 * n ≤ length (now list)) ⌝ }
+    ensures { λ v. ⌜ v ≡ turns (n - 1) 1 (now (buffer .entry)) len (now (list .entry)) .outcome ⌝ }
+    ensures { λ _. ⌜ now (buffer .exit) ≡ turns (n - 1) 1 (now (buffer .entry)) len (now (list .entry)) .buffer ⌝ }
+{
+    let mut count = 1;
+    let mut length = len;
+    let mut from = first;
+    while count < n {
+        let carried = carry_next(buffer, length, list, 96 * count, from);
+        match carried {
+            Carried::Out(next, mark) => {
+                length = next;
+                from = mark;
+                count += 1;
+            }
+            Carried::Stopped(number, at) => {
+                return ListOutcome {
+                    count,
+                    answer: Answer::Refused(number, at),
+                    length,
+                };
+            }
+        }
+    }
+    ListOutcome {
+        count,
+        answer: Answer::Accepted,
+        length,
+    }
+}
+
+// Corrects the file that fills the first `file_length` bytes of the buffer by one record. Answers the file's length afterwards; refused, the length that was
+// given, with the buffer as it was.
+pub fn correct(buffer: &mut [u8], file_length: usize, record: &[u8]) -> Outcome
+    ensures { λ v. ⌜ v ≡ correctOutcome (now (buffer .entry)) «file_length» (now («record» .entry)) ⌝ }
+    ensures { λ _. ⌜ now (buffer .exit) ≡ correctBuffer (now (buffer .entry)) «file_length» (now («record» .entry)) ⌝ }
+{
+    let carried = carry_first(buffer, file_length, record);
+    match carried {
+        Carried::Out(length, _) => Outcome {
+            answer: Answer::Accepted,
+            length,
+        },
+        Carried::Stopped(number, at) => Outcome {
+            answer: Answer::Refused(number, at),
+            length: file_length,
+        },
+    }
+}
+
+// Corrects the file by the records of a list in turn, up to the first that is refused. Answers how many were carried out, and what the last record tried was answered.
+pub fn correct_list(buffer: &mut [u8], file_length: usize, list: &[u8]) -> ListOutcome
+    ensures { λ v. ⌜ v ≡ runList (now (buffer .entry)) «file_length» (now (list .entry)) .outcome ⌝ }
+    ensures { λ _. ⌜ now (buffer .exit) ≡ runList (now (buffer .entry)) «file_length» (now (list .entry)) .buffer ⌝ }
+{
+    if list.len() % 96 != 0 {
+        return ListOutcome {
+            count: 0,
+            answer: Answer::Refused(20, 0),
+            length: file_length,
+        };
+    }
+    let n = list.len() / 96;
+    if n == 0 {
+        return ListOutcome {
+            count: 0,
+            answer: Answer::Accepted,
+            length: file_length,
+        };
+    }
+    let carried = carry_first(buffer, file_length, &list[..96]);
+    match carried {
+        Carried::Out(length, first) => run(buffer, length, list, n, first),
+        Carried::Stopped(number, at) => ListOutcome {
+            count: 0,
+            answer: Answer::Refused(number, at),
+            length: file_length,
+        },
+    }
+}

@@ -1,0 +1,2 @@
+// The reasons not to carry out a correction.
+pub mod inner;

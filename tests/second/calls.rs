@@ -138,7 +138,7 @@ fn room(random: &mut Random, unpadded: usize, enough: usize) -> usize {
 }
 
 /// A buffer that begins with the file, as far as it reaches; the rest is anything.
-fn buffer(random: &mut Random, file: &[u8], length: usize) -> Vec<u8> {
+pub fn buffer(random: &mut Random, file: &[u8], length: usize) -> Vec<u8> {
     let mut bytes = file.to_vec();
     bytes.truncate(length);
     let rest = length - bytes.len();
@@ -149,7 +149,7 @@ fn buffer(random: &mut Random, file: &[u8], length: usize) -> Vec<u8> {
     bytes
 }
 
-fn padded(length: usize) -> usize {
+pub fn padded(length: usize) -> usize {
     length + (8 - length % 8) % 8
 }
 
@@ -210,7 +210,7 @@ fn wrong_character(random: &mut Random, characters: &mut [u8]) {
 }
 
 /// Sets the first byte, the last or any, if there are any.
-fn set_somewhere<T: Copy>(random: &mut Random, list: &mut [T], value: T) {
+pub fn set_somewhere<T: Copy>(random: &mut Random, list: &mut [T], value: T) {
     if !list.is_empty() {
         let anywhere = random.below(list.len());
         let place = random.pick(&[0, anywhere, list.len() - 1]);
@@ -235,7 +235,7 @@ impl AppendCall {
 }
 
 /// How long a read's two sections are, without the last padding and with it.
-fn added(read: &Read) -> (usize, usize) {
+pub fn added(read: &Read) -> (usize, usize) {
     let header = padded(16 + read.name.len());
     let lists = [&read.increments, &read.bases, &read.qualities];
     let data = 2 * read.values.len() + lists.map(|list| list.len()).iter().sum::<usize>();
@@ -260,8 +260,7 @@ pub fn append_call(seed: u64, number: u64) -> AppendCall {
     let model = append_model(random);
     let flows = model.flows.clone();
     let layout = lay_out(&model);
-    let mut boundaries = vec![layout.header.end];
-    boundaries.extend(layout.reads.iter().map(|(_, data)| data.end));
+    let boundaries = layout.boundaries();
     let file = match random.below(20) {
         0..=3 => damaged_from(random, model, 1),
         4 => damaged_from(random, model, 2),
@@ -312,7 +311,7 @@ fn append_model(random: &mut Random) -> Model {
 }
 
 /// The length that is stated for a file of this length in a buffer of that.
-fn stated_length(random: &mut Random, file: usize, boundary: usize, room: usize) -> u64 {
+pub fn stated_length(random: &mut Random, file: usize, boundary: usize, room: usize) -> u64 {
     let inside = random.between(0, file);
     let further = random.between(file.min(room), file.max(room));
     let length = match random.below(24) {

@@ -36,6 +36,31 @@ pub const OF_APPEND: [&str; 9] = [
     "14", "25", "30", "5 given", "6 given", "9 given", "10 given", "11 given", "26",
 ];
 
+/// What a correction can answer beside the file's answers, in document 01's order.
+pub const OF_CORRECTION: [&str; 8] = ["14", "20", "21", "22", "25", "23", "24", "26"];
+
+/// What a list can answer beside the file's answers. "later": records before were carried out; after
+/// one of them neither 14 nor the file's refusal can come.
+pub const OF_LIST: [&str; 17] = [
+    "0 empty",
+    "20 length",
+    "14",
+    "20",
+    "21",
+    "22",
+    "25",
+    "23",
+    "24",
+    "26",
+    "20 later",
+    "21 later",
+    "22 later",
+    "25 later",
+    "23 later",
+    "24 later",
+    "26 later",
+];
+
 /// The name of an answer. What a file and a writer's own input can both be refused for is told apart.
 pub fn name(refusal: Option<Refusal>) -> String {
     let Some(refusal) = refusal else {
@@ -54,6 +79,17 @@ pub fn name(refusal: Option<Refusal>) -> String {
             format!("{}{}", refusal.number, section)
         }
         (number, _) => number.to_string(),
+    }
+}
+
+/// The name of the answer of a list that was given, of which `count` records were carried out.
+pub fn name_of_list(list: &[u8], count: u64, refusal: Option<Refusal>) -> String {
+    let name = name(refusal);
+    match refusal {
+        _ if list.is_empty() => format!("{name} empty"),
+        _ if list.len() % 96 != 0 => format!("{name} length"),
+        Some(_) if count > 0 => format!("{name} later"),
+        _ => name,
     }
 }
 
@@ -85,6 +121,16 @@ impl Counts {
         known
             .unwrap_or_else(|| panic!("{name} is no answer of this call"))
             .1 += 1;
+    }
+
+    /// Counts what is noted if it holds; what was not known before is known from here on.
+    pub fn note(&mut self, holds: bool, name: &'static str) {
+        if self.counts.iter().all(|(known, _)| *known != name) {
+            self.counts.push((name, 0));
+        }
+        if holds {
+            self.add(name);
+        }
     }
 
     /// How many answers there were.

@@ -27,6 +27,14 @@ extern "C" {
         values: *const u16, f: usize, increments: *const u8, a: usize, bases: *const u8, b: usize,
         qualities: *const u8, c: usize, place: *mut u64, length: *mut u64,
     ) -> u64;
+    fn h_correct(
+        buffer: *mut u8, n: usize, file_length: u64, record: *const u8, r: usize,
+        place: *mut u64, length: *mut u64,
+    ) -> u64;
+    fn h_correct_list(
+        buffer: *mut u8, n: usize, file_length: u64, list: *const u8, r: usize,
+        count: *mut u64, place: *mut u64, length: *mut u64,
+    ) -> u64;
 }
 
 /// What stands in an out parameter before the call: one that a call leaves alone shows.
@@ -167,7 +175,7 @@ pub struct Made {
     pub length: u64,
 }
 
-/// A writer's call, given where place and length go.
+/// A writer's or a corrector's call, given where place and length go.
 fn made(call: impl FnOnce(&mut u64, &mut u64) -> u64) -> Made {
     let [mut place, mut length] = [UNSET; 2];
     let number = call(&mut place, &mut length);
@@ -263,4 +271,42 @@ pub fn append_many(
             length,
         )
     })
+}
+
+pub fn correct(buffer: &mut Lent<u8>, file_length: u64, record: &Lent<u8>) -> Made {
+    made(|place, length| unsafe {
+        h_correct(
+            buffer.pointer_to_write(),
+            buffer.len(),
+            file_length,
+            record.pointer(),
+            record.len(),
+            place,
+            length,
+        )
+    })
+}
+
+/// What a list leaves: how many records were carried out, and what the last one tried answered.
+#[derive(Debug, PartialEq)]
+pub struct MadeByList {
+    pub count: u64,
+    pub last: Made,
+}
+
+pub fn correct_list(buffer: &mut Lent<u8>, file_length: u64, list: &Lent<u8>) -> MadeByList {
+    let mut count = UNSET;
+    let last = made(|place, length| unsafe {
+        h_correct_list(
+            buffer.pointer_to_write(),
+            buffer.len(),
+            file_length,
+            list.pointer(),
+            list.len(),
+            &mut count,
+            place,
+            length,
+        )
+    });
+    MadeByList { count, last }
 }

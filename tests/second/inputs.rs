@@ -93,6 +93,16 @@ pub struct Layout {
     pub index: Option<Span>,
 }
 
+impl Layout {
+    /// The ends of the header, the reads and the index.
+    pub fn boundaries(&self) -> Vec<usize> {
+        let mut all = vec![self.header.end];
+        all.extend(self.reads.iter().map(|(_, data)| data.end));
+        all.extend(self.index.iter().map(|index| index.end));
+        all
+    }
+}
+
 /// Pads with zeros up to a multiple of 8 and answers the section that began at `start`.
 fn close(bytes: &mut Vec<u8>, start: usize) -> Span {
     let padding = bytes.len();
@@ -356,14 +366,6 @@ struct Sound {
 }
 
 impl Sound {
-    /// The ends of the header, the reads and the index.
-    fn boundaries(&self) -> Vec<usize> {
-        let mut all = vec![self.layout.header.end];
-        all.extend(self.layout.reads.iter().map(|(_, data)| data.end));
-        all.extend(self.layout.index.iter().map(|index| index.end));
-        all
-    }
-
     /// A read's number, if there are reads.
     fn some_read(&self, random: &mut Random) -> Option<usize> {
         match self.model.reads.len() {
@@ -746,7 +748,7 @@ fn cut(random: &mut Random, sound: &Sound, bytes: &mut Vec<u8>) {
 fn index_fields(random: &mut Random, sound: &Sound, bytes: &mut Vec<u8>) {
     let file = bytes.len() as u64;
     let section = sound.some_section(random);
-    let boundary = random.pick(&sound.boundaries()) as u64;
+    let boundary = random.pick(&sound.layout.boundaries()) as u64;
     let inside = random.between(section.start, section.end) as u64;
     let offset = match random.below(8) {
         0 | 1 => boundary,

@@ -2,27 +2,32 @@
 //!
 //!     second-library SEED COUNT [FIRST]     cases FIRST (0) and on
 //!
-//! A case is a file for the calls that read, a new file, an append, and a file built read by read.
+//! A case is a file for the calls that read, a new file, an append, a file built read by read, a
+//! correction and a list of them (`library_corrections`).
 //! The comparison ends with 1 at the first difference, and also if an answer never occurred (a run
 //! needs some thousands of cases for that).
 
 mod calls;
+mod comparing;
+mod correcting;
+mod corrections;
 mod counts;
 mod exports;
 mod inputs;
 mod lent;
+mod library_corrections;
 mod reading;
 mod sff;
 mod writing;
 
+use comparing::{differ, holds, made, same, unchanged, Choices, Difference, Outcome};
 use counts::Counts;
 use exports::{Inserted, LentRead, Made, State, Stepped, Summed};
-use inputs::Random;
 use lent::Lent;
+use library_corrections::Corrections;
 use sff::{numbers, Reader};
-use std::fmt::Debug;
 use std::process::exit;
-use writing::{NewRead, Written};
+use writing::NewRead;
 
 fn main() {
     let arguments: Vec<String> = std::env::args().skip(1).collect();
@@ -41,6 +46,7 @@ fn main() {
 fn compare(seed: u64, count: u64, first: u64) -> Result<(), String> {
     file_e().map_err(|difference| difference.message)?;
     many_bases().map_err(|difference| difference.message)?;
+    library_corrections::file_e().map_err(|difference| difference.message)?;
     let mut comparison = Comparison::new();
     for number in first..first + count {
         comparison
@@ -126,73 +132,6 @@ fn many_bases() -> Outcome {
     Ok(())
 }
 
-/// What differs in a call, and the bytes that it was given.
-struct Difference {
-    message: String,
-    given: Vec<(&'static str, Vec<u8>)>,
-}
-
-impl Difference {
-    /// Writes what was given to the current folder and says where.
-    fn told(&self, seed: u64, number: u64) -> String {
-        let mut text = format!("case {number} of seed {seed}: {}", self.message);
-        for (part, bytes) in &self.given {
-            let name = format!("difference-{seed}-{number}.{part}");
-            match std::fs::write(&name, bytes) {
-                Ok(()) => text += &format!("\n{part}: {} bytes, in {name}", bytes.len()),
-                Err(error) => text += &format!("\n{part} could not be written: {error}"),
-            }
-        }
-        text
-    }
-}
-
-type Outcome = Result<(), Difference>;
-
-/// The library's answer and the second program's must be the same.
-fn same<T: Debug + PartialEq>(
-    call: &str,
-    library: T,
-    second: T,
-    given: &[(&'static str, &[u8])],
-) -> Outcome {
-    if library == second {
-        return Ok(());
-    }
-    let message = format!("{call}\nthe library {library:?}\nthe second program {second:?}");
-    differ(message, given)
-}
-
-/// What was lent must hold this now.
-fn holds(call: &str, lent: &Lent<u8>, second: &[u8], given: &[(&'static str, &[u8])]) -> Outcome {
-    let Some(library) = lent.now() else {
-        return differ(format!("{call}: bytes around the lent ones changed"), given);
-    };
-    match (0..second.len()).find(|place| library[*place] != second[*place]) {
-        None => Ok(()),
-        Some(place) => {
-            let (library, second) = (library[place], second[place]);
-            let bytes = format!("the library leaves {library} and the second program {second}");
-            differ(format!("{call}: at {place} {bytes}"), given)
-        }
-    }
-}
-
-fn unchanged(call: &str, is: bool, given: &[(&'static str, &[u8])]) -> Outcome {
-    if is {
-        return Ok(());
-    }
-    differ(format!("{call}: what it should only read changed"), given)
-}
-
-fn differ(message: String, given: &[(&'static str, &[u8])]) -> Outcome {
-    let given = given.iter().map(|(part, bytes)| (*part, bytes.to_vec()));
-    Err(Difference {
-        message,
-        given: given.collect(),
-    })
-}
-
 fn state(reader: Reader) -> State {
     [
         reader.place,
@@ -201,39 +140,19 @@ fn state(reader: Reader) -> State {
     ]
 }
 
-fn made(written: Written) -> Made {
-    let (number, place) = numbers(written.refusal);
-    Made {
-        number,
-        place,
-        length: written.length,
-    }
-}
-
 /// Four clips in one number, the first highest.
 fn packed(clips: [u64; 4]) -> u64 {
     clips.iter().fold(0, |number, clip| number << 16 | clip)
 }
 
-/// A case's random choices, apart from those of its inputs: margins of lent memory, states, rooms.
-struct Choices {
-    random: Random,
-}
-
-impl Choices {
-    fn lend<T: Copy + PartialEq>(&mut self, contents: &[T], around: T) -> Lent<T> {
-        Lent::new(contents, around, self.random.between(8, 24))
-    }
-
-    fn lend_read(&mut self, read: &NewRead) -> LentRead {
-        LentRead {
-            name: self.lend(read.name, b'n'),
-            clips: packed(read.clips.map(u64::from)),
-            values: self.lend(read.values, 1),
-            increments: self.lend(read.increments, 0),
-            bases: self.lend(read.bases, b'N'),
-            qualities: self.lend(read.qualities, 1),
-        }
+fn lend_read(choices: &mut Choices, read: &NewRead) -> LentRead {
+    LentRead {
+        name: choices.lend(read.name, b'n'),
+        clips: packed(read.clips.map(u64::from)),
+        values: choices.lend(read.values, 1),
+        increments: choices.lend(read.increments, 0),
+        bases: choices.lend(read.bases, b'N'),
+        qualities: choices.lend(read.qualities, 1),
     }
 }
 
@@ -245,6 +164,7 @@ struct Comparison {
     signal: Counts,
     new: Counts,
     append: Counts,
+    corrections: Corrections,
 }
 
 impl Comparison {
@@ -257,24 +177,25 @@ impl Comparison {
             signal: Counts::new(true, &["21", "32"]),
             new: Counts::new(false, &counts::OF_NEW),
             append: Counts::new(true, &counts::OF_APPEND),
+            corrections: Corrections::new(),
         }
     }
 
-    fn all(&self) -> [(&'static str, &Counts); 6] {
-        [
+    fn all(&self) -> Vec<(&'static str, &Counts)> {
+        let mut all = vec![
             ("test", &self.test),
             ("step", &self.step),
             ("insert", &self.insert),
             ("signal", &self.signal),
             ("new", &self.new),
             ("append", &self.append),
-        ]
+        ];
+        all.extend(self.corrections.all());
+        all
     }
 
     fn case(&mut self, seed: u64, number: u64) -> Outcome {
-        let mut choices = Choices {
-            random: inputs::numbers(seed ^ 1, number),
-        };
+        let mut choices = Choices::new(seed, number);
         let file = calls::file(seed, number);
         let lent = choices.lend(&file, 1);
         self.test(&file, &lent)?;
@@ -306,7 +227,8 @@ impl Comparison {
             &read,
             &mut choices,
         )?;
-        self.build(&calls::build_call(seed, number), &mut choices)
+        self.build(&calls::build_call(seed, number), &mut choices)?;
+        self.corrections.case(seed, number, &mut choices)
     }
 
     fn test(&mut self, file: &[u8], lent: &Lent<u8>) -> Outcome {
@@ -488,7 +410,7 @@ impl Comparison {
         ];
         let call = format!("append, length {file_length}, clips {:?}", read.clips);
         let written = writing::append(second, file_length, read);
-        let lent = choices.lend_read(read);
+        let lent = lend_read(choices, read);
         let library = exports::append(buffer, file_length, &lent);
         same(&call, library, made(written), &given)?;
         holds(&call, buffer, second, &given)?;

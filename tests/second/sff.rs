@@ -41,7 +41,7 @@ pub fn refuse<T>(number: u64, place: usize, section: Section) -> Result<T, Refus
 }
 
 /// "All numbers are big endian."
-fn big_endian(bytes: &[u8]) -> u64 {
+pub fn big_endian(bytes: &[u8]) -> u64 {
     let mut number = 0;
     for byte in bytes {
         number = number * 256 + u64::from(*byte);
@@ -91,7 +91,7 @@ impl Header<'_> {
     }
 
     /// Whether the index is declared to stand at this place.
-    fn index_is_at(&self, place: usize) -> bool {
+    pub fn index_is_at(&self, place: usize) -> bool {
         self.has_index() && self.index_offset == place as u64
     }
 }
@@ -166,7 +166,9 @@ pub struct Read<'a> {
     pub clips: [u64; 4],
     /// "F flow values of 2 bytes"
     values: &'a [u8],
+    pub increments: &'a [u8],
     pub bases: &'a [u8],
+    pub qualities: &'a [u8],
     /// The boundary behind the read.
     pub end: usize,
 }
@@ -277,7 +279,8 @@ fn test_read<'a>(file: &'a [u8], header: &Header, start: usize) -> Result<Read<'
     let end = header_end + up8(contents) as usize;
 
     // 10: the walk
-    let flow_positions = match flow_walk(&file[increments_start..bases_start], flow_count) {
+    let increments = &file[increments_start..bases_start];
+    let flow_positions = match flow_walk(increments, flow_count) {
         Ok(flow_positions) => flow_positions,
         Err(base) => return refuse(10, increments_start + base, Section::Data),
     };
@@ -295,7 +298,9 @@ fn test_read<'a>(file: &'a [u8], header: &Header, start: usize) -> Result<Read<'
         name: &file[name_start..name_end],
         clips,
         values: &file[header_end..increments_start],
+        increments,
         bases,
+        qualities: &file[qualities_start..contents_end],
         end,
     })
 }
@@ -314,6 +319,8 @@ fn pass_index(file: &[u8], header: &Header, place: usize) -> Result<usize, Refus
 pub struct Contents<'a> {
     pub header: Header<'a>,
     pub reads: Vec<Read<'a>>,
+    /// The index's bytes, none if it is absent.
+    pub index: &'a [u8],
 }
 
 /// The whole file: its header, then "at each boundary: an index declared there and not yet passed is
@@ -321,11 +328,14 @@ pub struct Contents<'a> {
 pub fn test_file(file: &[u8]) -> Result<Contents<'_>, Refusal> {
     let header = test_header(file)?;
     let mut reads = Vec::new();
+    let mut index: &[u8] = &[];
     let mut index_passed = false;
     let mut boundary = header.length;
     loop {
         if header.index_is_at(boundary) && !index_passed {
-            boundary = pass_index(file, &header, boundary)?;
+            let end = pass_index(file, &header, boundary)?;
+            index = &file[boundary..end];
+            boundary = end;
             index_passed = true;
         } else if (reads.len() as u64) < header.reads {
             let read = test_read(file, &header, boundary)?;
@@ -342,7 +352,11 @@ pub fn test_file(file: &[u8]) -> Result<Contents<'_>, Refusal> {
     if boundary < file.len() {
         return refuse(12, boundary, Section::End);
     }
-    Ok(Contents { header, reads })
+    Ok(Contents {
+        header,
+        reads,
+        index,
+    })
 }
 
 /// Number and place of the whole-file test.

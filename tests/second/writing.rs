@@ -16,7 +16,7 @@ pub struct Written {
 }
 
 /// "A writer's refusals of its own input have place 0."
-fn refuse_input<T>(number: u64) -> Result<T, Refusal> {
+pub fn refuse_input<T>(number: u64) -> Result<T, Refusal> {
     refuse(number, 0, Section::Given)
 }
 
@@ -53,22 +53,23 @@ fn test_new(room: usize, flows: &[u8], key: &[u8]) -> Result<Vec<u8>, Refusal> {
     if characters.any(|byte| !is_flow_character(*byte)) {
         return refuse_input(6);
     }
-    let header = new_header(flows, key);
+    let header = header(flows, key, (0, 0), 0);
     if header.len() > room {
         return refuse_input(26);
     }
     Ok(header)
 }
 
-/// The common header. F+K is at most 65,497, so that each length fits its field.
-fn new_header(flows: &[u8], key: &[u8]) -> Vec<u8> {
+/// The common header; of the index its offset and length. F+K is at most 65,497, so that each length
+/// fits its field.
+pub fn header(flows: &[u8], key: &[u8], index: (u64, u32), reads: u32) -> Vec<u8> {
     let length = up8(31 + flows.len() as u64 + key.len() as u64);
     let mut header = Vec::new();
     header.extend([0x2E, 0x73, 0x66, 0x66]); // magic
     header.extend([0, 0, 0, 1]); // version
-    header.extend(0u64.to_be_bytes()); // index offset
-    header.extend(0u32.to_be_bytes()); // index length
-    header.extend(0u32.to_be_bytes()); // reads
+    header.extend(index.0.to_be_bytes());
+    header.extend(index.1.to_be_bytes());
+    header.extend(reads.to_be_bytes());
     header.extend((length as u16).to_be_bytes());
     header.extend((key.len() as u16).to_be_bytes());
     header.extend((flows.len() as u16).to_be_bytes());
@@ -156,7 +157,7 @@ fn test_append(buffer: &[u8], file_length: u64, read: &NewRead) -> Result<(u64, 
         return refuse_input(11);
     }
     // "26 new length above the buffer"
-    let sections = new_sections(read);
+    let sections = sections(read);
     if file_length + sections.len() as u64 > buffer.len() as u64 {
         return refuse_input(26);
     }
@@ -164,7 +165,7 @@ fn test_append(buffer: &[u8], file_length: u64, read: &NewRead) -> Result<(u64, 
 }
 
 /// The header section and the data section of a read whose counts and lengths fit their fields.
-fn new_sections(read: &NewRead) -> Vec<u8> {
+pub fn sections(read: &NewRead) -> Vec<u8> {
     let mut header = Vec::new();
     let length = up8(16 + read.name.len() as u64);
     header.extend((length as u16).to_be_bytes());

@@ -6,11 +6,15 @@ ghost use Rattle.sff_format.specs.FileTest.{fileTest};
 ghost use Rattle.sff_format.specs.Step.{fresh, step, found, stop};
 ghost use Rattle.sff_format.specs.Position.{positionTest, signalTest, fileInsert, fileFirst, fileLast};
 ghost use Rattle.sff_format.specs.Writing.{newOutcome, newBuffer, readOf, appendOutcome, appendBuffer};
+ghost use Rattle.sff_correction.specs.Correct.{correctOutcome, correctBuffer};
+ghost use Rattle.sff_correction.specs.ListRun.{runList};
 ghost use Rattle.sff_reader.specs.Forms.{stateOf};
 ghost use Rattle.sff_signal.specs.Signal.{fileSignal};
 ghost use Rattle.harness.specs.Outs.{stateFrom, flag, viewClips, SmallClips, steppedWith, steppedOf, putFront, clipsFrom};
 use octets::copy;
 use sff::file_test;
+use sff_corrector::correct;
+use sff_corrector::correct_list;
 use sff_find::position_test;
 use sff_format::Answer;
 use sff_format::Clips;
@@ -307,6 +311,49 @@ pub extern "C" fn h_append(
         qualities,
     );
     let answer = outcome.answer;
+    *place = place_of(answer);
+    *length = outcome.length as u64;
+    number_of(answer)
+}
+
+#[no_mangle]
+pub extern "C" fn h_correct(
+    buffer: &mut [u8],
+    file_length: u64,
+    record: &[u8],
+    place: &mut u64,
+    length: &mut u64,
+) -> u64
+    ensures { λ r. ⌜ r ≡ numberOf (correctOutcome (now (buffer .entry)) «file_length» (now («record» .entry)) .answer) ⌝ }
+    ensures { λ _. ⌜ now (place .exit) ≡ placeOf (correctOutcome (now (buffer .entry)) «file_length» (now («record» .entry)) .answer) ⌝ }
+    ensures { λ _. ⌜ now (length .exit) ≡ correctOutcome (now (buffer .entry)) «file_length» (now («record» .entry)) .length ⌝ }
+    ensures { λ _. ⌜ now (buffer .exit) ≡ correctBuffer (now (buffer .entry)) «file_length» (now («record» .entry)) ⌝ }
+{
+    let outcome = correct(buffer, file_length as usize, record);
+    let answer = outcome.answer;
+    *place = place_of(answer);
+    *length = outcome.length as u64;
+    number_of(answer)
+}
+
+#[no_mangle]
+pub extern "C" fn h_correct_list(
+    buffer: &mut [u8],
+    file_length: u64,
+    list: &[u8],
+    count: &mut u64,
+    place: &mut u64,
+    length: &mut u64,
+) -> u64
+    ensures { λ r. ⌜ r ≡ numberOf (runList (now (buffer .entry)) «file_length» (now (list .entry)) .outcome .answer) ⌝ }
+    ensures { λ _. ⌜ now (count .exit) ≡ runList (now (buffer .entry)) «file_length» (now (list .entry)) .outcome .count ⌝ }
+    ensures { λ _. ⌜ now (place .exit) ≡ placeOf (runList (now (buffer .entry)) «file_length» (now (list .entry)) .outcome .answer) ⌝ }
+    ensures { λ _. ⌜ now (length .exit) ≡ runList (now (buffer .entry)) «file_length» (now (list .entry)) .outcome .length ⌝ }
+    ensures { λ _. ⌜ now (buffer .exit) ≡ runList (now (buffer .entry)) «file_length» (now (list .entry)) .buffer ⌝ }
+{
+    let outcome = correct_list(buffer, file_length as usize, list);
+    let answer = outcome.answer;
+    *count = outcome.count as u64;
     *place = place_of(answer);
     *length = outcome.length as u64;
     number_of(answer)

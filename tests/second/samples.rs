@@ -1,5 +1,8 @@
 //! Sample files for the stored runs.
 
+// Each program that takes this module in uses only a part of it.
+#![allow(dead_code)]
+
 use crate::inputs::{lay_out, Index, Model, Read};
 
 /// Document 01's file E, written out byte by byte: "flows TACG, key T, one read r1, values 100 0 200
@@ -26,7 +29,7 @@ pub fn e_with(place: usize, value: u8) -> Vec<u8> {
     file
 }
 
-fn read(name: &str, clips: [u16; 4], increments: &[u8], bases: &str) -> Read {
+pub fn read(name: &str, clips: [u16; 4], increments: &[u8], bases: &str) -> Read {
     Read {
         name: name.bytes().collect(),
         clips,
@@ -38,7 +41,7 @@ fn read(name: &str, clips: [u16; 4], increments: &[u8], bases: &str) -> Read {
 }
 
 /// A file of four flows.
-fn file(key: &str, reads: Vec<Read>, index: Option<(usize, usize)>) -> Vec<u8> {
+pub fn file(key: &str, reads: Vec<Read>, index: Option<(usize, usize)>) -> Vec<u8> {
     let index = index.map(|(after, length)| Index {
         after,
         bytes: vec![b'i'; length],
@@ -53,7 +56,7 @@ fn file(key: &str, reads: Vec<Read>, index: Option<(usize, usize)>) -> Vec<u8> {
     .bytes
 }
 
-fn two_reads() -> Vec<Read> {
+pub fn two_reads() -> Vec<Read> {
     vec![
         read("r1", [2, 0, 0, 0], &[1, 2, 0], "TCC"),
         read("second", [0, 3, 0, 0], &[2, 0, 1, 1], "AACG"),

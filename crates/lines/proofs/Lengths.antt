@@ -5,7 +5,7 @@ use native.Mathlib.Omega.{arith}
 use lib.ListN.{length, length-append}
 use Rattle.text.proofs.Writing.{dash-short}
 use Rattle.text.proofs.Decimal.{decimal-short}
-use Rattle.lines.specs.Lines.{space, newline, flowsLabel, keyLabel, readsLabel, refusedLabel, atLabel, numberField, wordField, labelledNumber, labelledWord, headerLine, extent, readLine, refusalLine}
+use Rattle.lines.specs.Lines.{space, newline, flowsLabel, keyLabel, readsLabel, refusedLabel, atLabel, countLabel, numberLabel, placeLabel, lengthLabel, numberField, wordField, labelledNumber, labelledWord, headerLine, extent, readLine, refusalLine, answerLine}
 
 number-short : (n end : ℕ) → length (numberField n end) ≤ 21
 unfolding numberField
@@ -41,3 +41,12 @@ pub refusal-line-short : (number place : ℕ) → length (refusalLine number pla
 unfolding refusalLine
 refusal-line-short number place =
     simp length-append (omega (arith, labelled-number-short refusedLabel number space, labelled-number-short atLabel place newline))
+
+pub answer-line-short : (count number place size : ℕ) → length (answerLine count number place size) ≤ 110
+unfolding answerLine
+answer-line-short count number place size =
+    let c = labelled-number-short countLabel count space in
+    let n = labelled-number-short numberLabel number space in
+    let p = labelled-number-short placeLabel place space in
+    let l = labelled-number-short lengthLabel size newline in
+    simp length-append (omega (arith, c, n, p, l))

@@ -1,4 +1,4 @@
--- The lines that the lister prints: of a file's header, of a read, of a refusal. Assumes nothing: these are definitions.
+-- The lines that the programs print: of a file's header, of a read, of a refusal, of a list run's answer. Assumes nothing: these are definitions.
 use Prim.Native.Nat.{ℕ}
 use mathlib.Core.List.{List, [], _∷_, _++_}
 use Rattle.text.specs.Writing.{orDash}
@@ -31,6 +31,22 @@ refusedLabel = 114 ∷ 101 ∷ 102 ∷ 117 ∷ 115 ∷ 101 ∷ 100 ∷ 32 ∷ []
 -- "at "
 abbrev pub atLabel : List ℕ
 atLabel = 97 ∷ 116 ∷ 32 ∷ []
+
+-- "count "
+abbrev pub countLabel : List ℕ
+countLabel = 99 ∷ 111 ∷ 117 ∷ 110 ∷ 116 ∷ 32 ∷ []
+
+-- "number "
+abbrev pub numberLabel : List ℕ
+numberLabel = 110 ∷ 117 ∷ 109 ∷ 98 ∷ 101 ∷ 114 ∷ 32 ∷ []
+
+-- "place "
+abbrev pub placeLabel : List ℕ
+placeLabel = 112 ∷ 108 ∷ 97 ∷ 99 ∷ 101 ∷ 32 ∷ []
+
+-- "length "
+abbrev pub lengthLabel : List ℕ
+lengthLabel = 108 ∷ 101 ∷ 110 ∷ 103 ∷ 116 ∷ 104 ∷ 32 ∷ []
 
 -- a number, and the byte that ends it
 unfoldable pub numberField : ℕ → ℕ → List ℕ
@@ -65,3 +81,12 @@ readLine position name bases first last insert =
 -- document 01: "A refusal is one line and nothing else, as `refused 9 at 48`"
 unfoldable pub refusalLine : ℕ → ℕ → List ℕ
 refusalLine number place = labelledNumber refusedLabel number space ++ labelledNumber atLabel place newline
+
+-- document 01: "longer input than 65,536 bytes prints `too long`"
+abbrev pub tooLong : List ℕ
+tooLong = 116 ∷ 111 ∷ 111 ∷ 32 ∷ 108 ∷ 111 ∷ 110 ∷ 103 ∷ 10 ∷ []
+
+-- of a list run, document 01: "The answer has their count and the number, place and length of the last record tried"
+unfoldable pub answerLine : ℕ → ℕ → ℕ → ℕ → List ℕ
+answerLine count number place length =
+    labelledNumber countLabel count space ++ labelledNumber numberLabel number space ++ labelledNumber placeLabel place space ++ labelledNumber lengthLabel length newline

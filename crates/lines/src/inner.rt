@@ -1,6 +1,6 @@
 // Each function asks for the room that it fills, which the crates above have measured, and answers the place after what it put.
 ghost use Rattle.text.specs.Writing.{Room, Wrote};
-ghost use Rattle.lines.specs.Lines.{numberField, wordField, labelledNumber, labelledWord, headerLine, extent, readLine, refusalLine};
+ghost use Rattle.lines.specs.Lines.{numberField, wordField, labelledNumber, labelledWord, headerLine, extent, readLine, refusalLine, tooLong, answerLine};
 use text::inner::put_byte;
 use text::inner::put_bytes;
 use text::inner::put_number;
@@ -89,4 +89,30 @@ pub fn put_refusal_line(out: &mut [u8], at: usize, number: usize, place: usize) 
 {
     let next = put_labelled_number(out, at, b"refused ", number, b' ');
     put_labelled_number(out, next, b"at ", place, b'\n')
+}
+
+// Puts the line of an input that is too long.
+pub fn put_too_long(out: &mut [u8], at: usize) -> usize
+    requires { ⌜ Room at tooLong (now out) ⌝ }
+    ensures { λ r. ⌜ Wrote at tooLong (now (out .entry)) (now (out .exit)) r ⌝ }
+{
+    put_bytes(out, at, b"too long\n")
+}
+
+// Puts the line of a list run's answer.
+pub fn put_answer_line(
+    out: &mut [u8],
+    at: usize,
+    count: usize,
+    number: usize,
+    place: usize,
+    length: usize,
+) -> usize
+    requires { ⌜ Room at (answerLine count number place length) (now out) ⌝ }
+    ensures { λ r. ⌜ Wrote at (answerLine count number place length) (now (out .entry)) (now (out .exit)) r ⌝ }
+{
+    let next = put_labelled_number(out, at, b"count ", count, b' ');
+    let after = put_labelled_number(out, next, b"number ", number, b' ');
+    let end = put_labelled_number(out, after, b"place ", place, b' ');
+    put_labelled_number(out, end, b"length ", length, b'\n')
 }

@@ -1,2 +1,2 @@
-// The lines that the lister prints, into a lent buffer at a running place.
+// The lines that the programs print, into a lent buffer at a running place.
 pub mod inner;

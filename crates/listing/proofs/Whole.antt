@@ -2,12 +2,12 @@
 use Prim.Native.Nat.{ℕ, _+_, _*_, _≤_, _<_}
 use mathlib.Core.Path.{_≡_, refl, sym, ap, _∙_}
 use mathlib.Core.Bool.{Bool, true, false, not}
-use mathlib.Core.List.{List, [], _++_}
+use mathlib.Core.List.{List, _++_}
 use native.Mathlib.Omega.{arith}
 use lib.Dec.{ltb}
-use lib.ListN.{length, take}
+use lib.ListN.{length}
 use borrow.Author.Tests.{ltb-false, lt-ltb, le-ltb, not-true, not-false}
-use Rattle.octets.specs.Parts.{putAt, wholePart}
+use Rattle.octets.specs.Parts.{wholePart}
 use Rattle.octets.specs.Numbers.{Bytes}
 use Rattle.octets.proofs.Lists.{whole-in}
 use Rattle.sff_format.specs.declared.Answer.the-variants.{Accepted, Refused}
@@ -17,9 +17,9 @@ use Rattle.sff_format.specs.Parse.{parse}
 use Rattle.sff_format.proofs.HeaderLaws.{fits-31, header-fits, header-sized, characters-length}
 use Rattle.sff_format.proofs.FileLaid.{head-ok, length-parsed}
 use Rattle.text.specs.Writing.{Room, Wrote}
-use Rattle.text.proofs.Writing.{room, wrote-none, wrote-counts}
-use Rattle.lines.specs.Lines.{headerLine, refusalLine}
-use Rattle.listing.specs.Listing.{linesFrom, fileLines, listed, listing, enough, listingIn, tooLong, printed, printedIn}
+use Rattle.text.proofs.Writing.{room, Put, nothing-put, text-put}
+use Rattle.lines.specs.Lines.{headerLine, refusalLine, tooLong}
+use Rattle.listing.specs.Listing.{linesFrom, fileLines, listed, listing, enough, listingIn, printed, printedIn}
 use Rattle.listing.proofs.Lengths.{listing-short}
 
 module _ (b : List ℕ) (e : fileTest b ≡ Accepted) where
@@ -44,16 +44,6 @@ module _ (b : List ℕ) (e : fileTest b ≡ Accepted) where
 pub listing-refused : (b : List ℕ) (n p : ℕ) → fileTest b ≡ Refused n p → listing b ≡ refusalLine n p
 unfolding listing listed
 listing-refused b n p e = rw e
-
--- what is promised where the text xs is put at the front of l: the count, the buffer, and that the count is one of its bytes
-abbrev Put : List ℕ → List ℕ → List ℕ → ℕ → Type 0
-Put xs l l′ n = (n ≡ length xs) × ((l′ ≡ putAt 0 xs l) × ((n ≤ length l′) × (n ≡ length (take n l′))))
-
-nothing-put : (l : List ℕ) → Put [] l l 0
-nothing-put l = (refl, (wrote-none 0 l .is, (omega arith, refl)))
-
-text-put : {xs l l′ : List ℕ} {n : ℕ} → Wrote 0 xs l l′ n → Room 0 xs l → Put xs l l′ n
-text-put w r = (let n = w .next in omega arith, (w .is, wrote-counts w r))
 
 -- r is what `has_room` answered of the buffer l
 module _ (b l : List ℕ) (r : Bool) (is : r ≡ not (ltb (length l) (enough (length b)))) where

@@ -12,7 +12,7 @@ use Rattle.sff_format.specs.FileTest.{fileTest}
 use Rattle.sff_format.specs.Parse.{parse}
 use Rattle.sff_format.specs.Insert.{insertFirst, insertLast, insertOf}
 use Rattle.sff_format.specs.View.{bytesIn, viewFirst, viewLast, insertIn}
-use Rattle.lines.specs.Lines.{headerLine, readLine, refusalLine}
+use Rattle.lines.specs.Lines.{headerLine, readLine, refusalLine, tooLong}
 
 -- "A read's line is position, name, N, first, last, insert"
 abbrev pub lineOf : ℕ → Read → List ℕ
@@ -43,9 +43,6 @@ unfoldable pub listingIn : ℕ → List ℕ → List ℕ
 listingIn room b = cond (ltb room (enough (length b))) [] (listing b)
 
 -- "longer input than 65,536 bytes prints `too long`"
-abbrev pub tooLong : List ℕ
-tooLong = 116 ∷ 111 ∷ 111 ∷ 32 ∷ 108 ∷ 111 ∷ 110 ∷ 103 ∷ 10 ∷ []
-
 unfoldable pub printed : List ℕ → List ℕ
 printed b = cond (ltb 65536 (length b)) tooLong (listing b)
 

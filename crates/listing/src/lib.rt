@@ -15,6 +15,7 @@ ghost use Rattle.listing.specs.Listing.{viewLine, linesFrom, fileLines, 
 use lines::inner::put_header_line;
 use lines::inner::put_read_line;
 use lines::inner::put_refusal_line;
+use lines::inner::put_too_long;
 use octets::stretch;
 use sff::file_test;
 use sff::inner::past_index;
@@ -28,7 +29,6 @@ use sff_read::inner::read_view;
 use sff_read::last_base;
 use sff_view::insert;
 use sff_view::name;
-use text::inner::put_bytes;
 
 // Puts a read's line.
 fn put_view_line(file: &[u8], view: ReadView, position: usize, out: &mut [u8], at: usize) -> usize
@@ -125,7 +125,7 @@ pub fn print(input: &[u8], out: &mut [u8]) -> usize
         return 0;
     }
     if input.len() > 65536 {
-        return put_bytes(out, 0, b"too long\n");
+        return put_too_long(out, 0);
     }
     list(input, out)
 }

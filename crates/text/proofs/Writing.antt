@@ -41,6 +41,16 @@ wrote-counts {at} {xs} {l} {l′} {r} w m =
     let h : r ≤ length l′ = omega (arith, e) in
     (h, sym (length-take-le r l′ h))
 
+-- what an entry point promises where the text xs is put at the front of l: the count, the buffer, and that the count is one of its bytes
+abbrev pub Put : List ℕ → List ℕ → List ℕ → ℕ → Type 0
+Put xs l l′ n = (n ≡ length xs) × ((l′ ≡ putAt 0 xs l) × ((n ≤ length l′) × (n ≡ length (take n l′))))
+
+pub nothing-put : (l : List ℕ) → Put [] l l 0
+nothing-put l = (refl, (wrote-none 0 l .is, (omega arith, refl)))
+
+pub text-put : {xs l l′ : List ℕ} {n : ℕ} → Wrote 0 xs l l′ n → Room 0 xs l → Put xs l l′ n
+text-put w r = (let n = w .next in omega arith, (w .is, wrote-counts w r))
+
 -- two pieces, three, four: the room of each, and all of them
 module _ {at : ℕ} (a b : List ℕ) {l : List ℕ} (r : Room at (a ++ b) l) where
   pub two-1 : Room at a l

@@ -1,0 +1,96 @@
+// correct FILE RECORDS NEW-FILE: runs a list of correction records on a file of at most 65,536 bytes, writes the corrected file under a new name and prints
+// the answer.
+use libc::STDERR_FILENO;
+use libc::STDOUT_FILENO;
+use octets::stretch;
+use sff_correction::ListOutcome;
+
+// A file that was read, with its length; or one that was not, and why is printed.
+enum Loaded {
+    Bytes(usize),
+    Nothing,
+}
+
+fn print_too_long() {
+    let mut text = report::report_room();
+    let k = report::too_long(&mut text);
+    io::write_all(STDOUT_FILENO, &text[..k]);
+}
+
+// Reads the file that an argument names.
+fn load(i: usize, bytes: &mut [u8]) -> Loaded {
+    let mut path = io::buffer();
+    let n = os::arg(i, &mut path);
+    let fd = os::open_read(&path[..n]);
+    if fd < 0 {
+        os::fail(&path[..n]);
+        return Loaded::Nothing;
+    }
+    let size = io::read_full(fd, bytes);
+    // One byte more: there is one if the file is too long, and a read that failed fails again.
+    let mut more = [0u8; 1];
+    let got = libc::read(fd, &mut more);
+    if got < 0 {
+        os::fail(&path[..n]);
+        return Loaded::Nothing;
+    }
+    libc::close(fd);
+    if got > 0 {
+        print_too_long();
+        return Loaded::Nothing;
+    }
+    Loaded::Bytes(size)
+}
+
+// Writes a file under the name that an argument gives, which no file may have yet, and answers whether it is there.
+fn save(i: usize, bytes: &[u8]) -> bool {
+    let mut path = io::buffer();
+    let n = os::arg(i, &mut path);
+    let fd = os::create(&path[..n]);
+    if fd < 0 {
+        os::fail(&path[..n]);
+        return false;
+    }
+    let whole = io::write_all(fd, bytes);
+    if whole & (libc::close(fd) == 0) {
+        return true;
+    }
+    os::fail(&path[..n]);
+    os::unlink(&path[..n]);
+    false
+}
+
+// Prints the answer of a run, once the new file that it asks for is there: no answer is printed of a file that could not be written.
+fn deliver(outcome: ListOutcome, buffer: &[u8]) {
+    if report::is_written(outcome) {
+        if !save(3, stretch(buffer, 0, outcome.length)) {
+            return;
+        }
+    }
+    let mut text = report::report_room();
+    let k = report::report(outcome, &mut text);
+    io::write_all(STDOUT_FILENO, &text[..k]);
+}
+
+fn correct() {
+    let mut buffer = io::large_buffer();
+    let file = load(1, &mut buffer);
+    let Loaded::Bytes(n) = file else {
+        return;
+    };
+    let mut list = io::large_buffer();
+    let records = load(2, &mut list);
+    let Loaded::Bytes(m) = records else {
+        return;
+    };
+    let outcome = sff_corrector::correct_list(&mut buffer, n, stretch(&list, 0, m));
+    deliver(outcome, &buffer);
+}
+
+fn main() {
+    if os::arg_count() == 4 {
+        correct();
+    } else {
+        io::write_all(STDERR_FILENO, b"usage: correct FILE RECORDS NEW-FILE\n");
+    }
+}

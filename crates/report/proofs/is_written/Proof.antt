@@ -1,0 +1,9 @@
+use borrow.Author.Needs.{needs}
+use Rattle.sff_format.specs.Answer.{acceptedOr}
+use Rattle.report.specs.Report.{isWritten}
+use Rattle.report.proofs.is_written.Statement.{statement}
+use Rattle.report.proofs.is_written.Tie as tie
+
+pub is-written-spec : {M : Type 1} → statement M
+unfolding isWritten acceptedOr
+is-written-spec = tie.close (tie.spec (λ c. search needs) (λ c. search needs) (λ c. rw (c .enum-told2 .given .1)) (λ c. rw (c .before .enum-told .given .1)))

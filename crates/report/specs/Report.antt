@@ -1,0 +1,34 @@
+-- What `correct` prints of a list run, and whether it writes a new file. Assumes nothing: these are definitions.
+use Prim.Native.Nat.{ℕ}
+use mathlib.Core.Bool.{Bool, true, cond}
+use mathlib.Core.List.{List, [], _++_}
+use lib.Dec.{ltb}
+use Rattle.sff_format.specs.declared.Answer.{Answer}
+use Rattle.sff_format.specs.declared.Answer.the-variants.{Accepted, Refused}
+use Rattle.sff_format.specs.Answer.{numberOf, placeOf, acceptedOr}
+use Rattle.sff_correction.specs.declared.ListOutcome.{ListOutcome}
+use Rattle.lines.specs.Lines.{refusalLine, answerLine}
+
+-- "prints the answer (count, number, place, length)"
+abbrev pub answered : ListOutcome → List ℕ
+answered o = answerLine (o .count) (numberOf (o .answer)) (placeOf (o .answer)) (o .length)
+
+-- "a refusal prints in the lister's form"
+unfoldable pub refusal : Answer → List ℕ
+refusal Accepted = []
+refusal (Refused n p) = refusalLine n p
+
+unfoldable pub reported : ListOutcome → List ℕ
+reported o = answered o ++ refusal (o .answer)
+
+-- room for any text of this crate
+abbrev pub enough : ℕ
+enough = 256
+
+-- such a text where a buffer of that length has the room, and else nothing
+unfoldable pub inRoom : ℕ → List ℕ → List ℕ
+inRoom room xs = cond (ltb room enough) [] xs
+
+-- a new file is written where the list, or some of its records, were carried out
+unfoldable pub isWritten : ListOutcome → Bool
+isWritten o = acceptedOr (o .answer) true (ltb 0 (o .count))

@@ -20,8 +20,8 @@ use octets::put32;
 use octets::up8;
 use octets::wide;
 use sff_read::inner::read_end;
-use splice::cut;
-use splice::splice;
+use splice::inner::cut;
+use splice::inner::splice;
 
 // Gives the read at p the record's new clips.
 fn put_clips(buffer: &mut [u8], p: usize, record: &[u8])

@@ -6,8 +6,8 @@ use lib.ListN.{length, replicate}
 use Rattle.octets.specs.Parts.{part, spliced}
 use Rattle.octets.proofs.Lists.{length-part, put-before}
 use borrow.Author.Needs.{needs}
-use Rattle.splice.proofs.splice.Statement.{statement}
-use Rattle.splice.proofs.splice.Tie as tie
+use Rattle.splice.proofs.inner.splice.Statement.{statement}
+use Rattle.splice.proofs.inner.splice.Tie as tie
 
 returns : tie.Need-returns
 unfolding spliced

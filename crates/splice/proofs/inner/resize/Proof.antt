@@ -6,8 +6,8 @@ use lib.ListN.{length, replicate}
 use Rattle.octets.specs.Parts.{part}
 use Rattle.octets.proofs.Lists.{length-part, put-same, put-next}
 use borrow.Author.Needs.{needs}
-use Rattle.splice.proofs.resize.Statement.{statement}
-use Rattle.splice.proofs.resize.Tie as tie
+use Rattle.splice.proofs.inner.resize.Statement.{statement}
+use Rattle.splice.proofs.inner.resize.Tie as tie
 
 pub resize-spec : {M : Type 1} → statement M
 resize-spec =

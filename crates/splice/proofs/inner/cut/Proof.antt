@@ -1,8 +1,8 @@
 use native.Mathlib.Nat.{add-zero}
 use Rattle.octets.specs.Parts.{spliced}
 use borrow.Author.Needs.{needs}
-use Rattle.splice.proofs.cut.Statement.{statement}
-use Rattle.splice.proofs.cut.Tie as tie
+use Rattle.splice.proofs.inner.cut.Statement.{statement}
+use Rattle.splice.proofs.inner.cut.Tie as tie
 
 returns : tie.Need-returns
 unfolding spliced

@@ -10,7 +10,7 @@ use lib.Seq.{take-add, drop-drop, take-at, drop-at, take-length}
 use Rattle.octets.specs.Parts.{part, filled, Stands}
 use Rattle.octets.specs.Numbers.{bigEndian, bytesOf, Bytes, number, fields, words, wordsAt, Words}
 use Rattle.octets.specs.Scans.{run, isZero, Every, fails}
-use Rattle.octets.proofs.Lists.{length-part}
+use Rattle.octets.proofs.Lists.{length-part, part-take}
 use Rattle.octets.proofs.Digits.{length-bytesOf, bigEndian-fits, bytesOf-bigEndian, bigEndian-small}
 use Rattle.octets.proofs.AllBytes.{bytes-part}
 use Rattle.octets.proofs.Every.{none-fails, every-left}
@@ -128,6 +128,11 @@ stands-number w p v b h s = rw (stands-read p w (bytesOf w v) b (length-bytesOf 
 pub number-small : (w p : ℕ) (b : List ℕ) → Bytes b → p + w ≤ length b → number w p b < 256 ^ w
 unfolding number
 number-small w p b y h = rw (length-part p w b h) at (bigEndian-small (part p w b) (bytes-part p w b y))
+
+-- a number in the front of a list
+pub number-take : (w p n : ℕ) (b : List ℕ) → p + w ≤ n → n ≤ length b → number w p (take n b) ≡ number w p b
+unfolding number
+number-take w p n b h k = rw (part-take p w n b h k)
 
 -- numbers one after another: from place p + k on, b has these
 abbrev pub Numbers : List ℕ → ℕ → ℕ → List (ℕ × ℕ) → Type 0

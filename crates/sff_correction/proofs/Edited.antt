@@ -20,23 +20,11 @@ use Rattle.sff_format.specs.ReadTest.{clipTest}
 use Rattle.sff_format.specs.Places.{replaced, place}
 use Rattle.sff_format.proofs.Answers.{first-ok, second-ok, when-ok, under-ok}
 use Rattle.sff_format.proofs.Sizes.{length-head, length-header}
-use Rattle.sff_format.proofs.Boundaries.{undeclared}
-use Rattle.sff_format.proofs.Keeps.{valid-at, valid-changed, valid-gone}
+use Rattle.sff_format.proofs.Keeps.{no-index, valid-at, valid-changed, valid-gone}
 use Rattle.sff_correction.specs.Record.{position, newQualityLeft, newQualityRight, newAdapterLeft, newAdapterRight, oldName, newName, isClips, isRename, recordTest}
 use Rattle.sff_correction.specs.Edit.{clipped, renamed, instead, target, edited}
 use Rattle.sff_correction.specs.Reasons.{clipsAbove, others, bears, reasons}
 use Rattle.sff_correction.proofs.Records.{new-most, new-good, new-size, new-clips-fit}
-
--- a file whose index is not declared has none
-nothing : (l : List ℕ) → length l ≡ 0 → l ≡ []
-nothing [] e = refl
-nothing (x ∷ l) e = absurd (let a : ⊥ = omega arith in a)
-
-pub no-index : (f : File) → declared (f .index .offset) (length (f .index .bytes)) ≡ false → f .index ≡ noIndex
-no-index f d =
-    let u = undeclared (f .index .offset) (length (f .index .bytes)) d in
-    let n : f .index .bytes ≡ [] = nothing (f .index .bytes) (u .1) in
-    λ j. record { offset = u .0 j; bytes = n j }
 
 -- what comes in the place of a read, by the kind
 module _ (r : List ℕ) (f : File) where

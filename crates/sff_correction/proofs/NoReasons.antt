@@ -5,20 +5,21 @@ use mathlib.Core.Bool.{Bool, true, false, cond, not, _&&_, _||_}
 use mathlib.Core.Logic.{_↔_}
 use mathlib.Core.List.{List, [], _∷_, _++_, append-nil}
 use native.Mathlib.Omega.{arith}
-use borrow.Author.Tests.{eqb-true, eq-eqb, lt-ltb, ltb-true, ltb-false}
+use borrow.Author.Tests.{lt-ltb, ltb-true, ltb-false}
 use lib.ListN.{length, take, drop, getD, length-drop}
 use lib.Seq.{length-take-le, getD-take, getD-drop}
-use lib.Dec.{eqb, ltb}
+use lib.Dec.{ltb}
 use Rattle.octets.specs.Parts.{same}
+use Rattle.octets.proofs.Same.{same-is, is-same}
 use Rattle.sff_format.specs.declared.Answer.{Answer}
 use Rattle.sff_format.specs.declared.Answer.the-variants.{Accepted}
 use Rattle.sff_format.specs.Answer.{numberOf, acceptedOr, _then_}
-use Rattle.sff_format.specs.Rules.{declared}
-use Rattle.sff_format.specs.Model.{Read, File, Index, noIndex, layout}
+use Rattle.sff_format.specs.Model.{Read, File, layout}
 use Rattle.sff_format.specs.ReadTest.{clipTest}
 use Rattle.sff_format.specs.Parse.{parse}
 use Rattle.sff_format.specs.Places.{noRead, replaced}
 use Rattle.sff_format.proofs.Answers.{first-ok, second-ok, both-ok, ok-when, under-ok, ok-under}
+use Rattle.sff_format.proofs.Keeps.{none-declared}
 use Rattle.sff_format.proofs.Given.{or-left, or-right}
 use Rattle.sff_format.proofs.Refusals.{Numbered, zero-accepted, then-numbered, when-numbered, file-numbered}
 use Rattle.sff_correction.specs.Record.{position, oldLength, newLength, newQualityLeft, newQualityRight, newAdapterLeft, newAdapterRight, oldName, newName, isClips, isRename, nameFieldTest, unusedTest, newClipsTest, newNameTest, recordTest}
@@ -26,24 +27,7 @@ use Rattle.sff_correction.specs.Edit.{target, edited}
 use Rattle.sff_correction.specs.Reasons.{clipsAbove, bears, reasons}
 use Rattle.sff_correction.specs.NoReason.{ClipsWithin, NoReason}
 use Rattle.sff_correction.specs.Correct.{correctTest}
-use Rattle.sff_correction.proofs.Edited.{no-index, clips-low, reasons-position, reasons-name, reasons-index, reasons-clips, reasons-names, reasons-room}
-
--- two lists are the same exactly if `same` says so
-same-is : (xs ys : List ℕ) → same xs ys ≡ true → xs ≡ ys
-unfolding same
-same-is [] [] e = refl
-same-is [] (y ∷ ys) e = absurd (let z : _≡_ {A = ℕ} 0 1 = cc in let a : ⊥ = omega arith in a)
-same-is (x ∷ xs) [] e = absurd (let z : _≡_ {A = ℕ} 0 1 = cc in let a : ⊥ = omega arith in a)
-same-is (x ∷ xs) (y ∷ ys) e = go (eqb x y) refl e (same-is xs ys)
-  where
-    go : (t : Bool) → eqb x y ≡ t → (t && same xs ys) ≡ true → (same xs ys ≡ true → xs ≡ ys) → x ∷ xs ≡ y ∷ ys
-    go true h k ih = let a = eqb-true x y h in cc (ih k)
-    go false h k ih = absurd (let z : _≡_ {A = ℕ} 0 1 = cc in let a : ⊥ = omega arith in a)
-
-is-same : (xs : List ℕ) → same xs xs ≡ true
-unfolding same
-is-same [] = refl
-is-same (x ∷ xs) = rw (eq-eqb x x refl, is-same xs)
+use Rattle.sff_correction.proofs.Edited.{clips-low, reasons-position, reasons-name, reasons-index, reasons-clips, reasons-names, reasons-room}
 
 -- a name is borne exactly if some read has it
 bears-none : (name : List ℕ) (xs : List Read) → ((j : ℕ) → j < length xs → getD xs j noRead .name ≡ name → ⊥) → bears name xs ≡ false
@@ -138,10 +122,6 @@ module _ (room : ℕ) (r : List ℕ) (f : File) where
   not-only true t h = refl
   not-only false t h = h refl
 
-  none-declared : f .index ≡ noIndex → declared (f .index .offset) (length (f .index .bytes)) ≡ false
-  unfolding declared
-  none-declared e = ap (λ (x : Index). declared (x .offset) (length (x .bytes))) e
-
   old-same : oldName r ≡ target r f .name → same (oldName r) (target r f .name) ≡ true
   old-same e = rw e (is-same (target r f .name))
 
@@ -165,7 +145,7 @@ module _ (room : ℕ) (r : List ℕ) (f : File) where
         (
         both-ok _ _ (ok-when _ _ _ (ap not (old-same (n .named))))
         (
-        both-ok _ _ (ok-when _ _ _ (not-only (isClips r) _ (λ k. none-declared (n .no-index k))))
+        both-ok _ _ (ok-when _ _ _ (not-only (isClips r) _ (λ k. none-declared f (n .no-index k))))
         (
         both-ok _ _ (ok-when _ _ _ (only (isClips r) _ (λ k. within-low (length (target r f .bases)) r (n .clips-low k))))
         (

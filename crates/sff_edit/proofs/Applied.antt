@@ -11,6 +11,7 @@ use Rattle.octets.specs.Parts.{part, putAt, spliced}
 use Rattle.octets.specs.Numbers.{Bytes, number, bytesOf}
 use Rattle.octets.proofs.Lists.{put-next}
 use Rattle.octets.proofs.Digits.{length-bytesOf}
+use Rattle.octets.proofs.Stands.{number-take}
 use Rattle.sff_format.specs.declared.Answer.the-variants.{Accepted}
 use Rattle.sff_format.specs.Model.{noIndex, layoutRead}
 use Rattle.sff_format.specs.HeaderTest.{readCount, flows, flowCharacters}
@@ -29,7 +30,7 @@ use Rattle.sff_correction.specs.Correct.{corrected, over}
 use Rattle.sff_correction.proofs.Records.{record-96, new-most}
 use Rattle.sff_correction.proofs.Edited.{reasons-position, reasons-index, reasons-room}
 use Rattle.sff_edit.specs.Edits.{clippedAt, nameRoom, renamedAt, removedAt}
-use Rattle.sff_edit.proofs.InPlace.{number-inside, section-length, read-size, read-inside, clips-length, clips-done, name-after, name-done, none-after, none-done}
+use Rattle.sff_edit.proofs.InPlace.{section-length, read-size, read-inside, clips-length, clips-done, name-after, name-done, none-after, none-done}
 
 -- the two lengths of a header section, put one after the other
 put-lengths : (p m n : ℕ) (l : List ℕ) → p + 2 ≤ length l → putAt (p + 2) (bytesOf 2 n) (putAt p (bytesOf 2 m) l) ≡ putAt p (bytesOf 2 m ++ bytesOf 2 n) l
@@ -65,7 +66,7 @@ module _ {buffer : List ℕ} {len p : ℕ} {r : List ℕ} (s : Ready buffer len 
   ready-header = let g = fits-31 (take len buffer) (head-ok (take len buffer) (s .accepted)) in omega (arith, g, size)
 
   pub ready-flows : number 2 28 buffer ≡ flows (take len buffer)
-  ready-flows = let g = ready-header in number-inside buffer len r (s .inside) (s .bytes) (s .accepted) (s .formed) below 2 28 (omega arith)
+  ready-flows = let g = ready-header in sym (number-take 2 28 len buffer (omega arith) (s .inside))
 
   pub ready-start : p + 16 ≤ length (take len buffer)
   ready-start = rw (s .place-is) (fits-16 (flowCharacters (take len buffer)) (take len buffer) (readPlace (take len buffer) (position r)) (read-accepted (take len buffer) (position r) (s .accepted) below))
@@ -98,7 +99,7 @@ module _ {buffer : List ℕ} {len p : ℕ} {r : List ℕ} (s : Ready buffer len 
     section : sectionLength buffer p ≡ sectionLength (take len buffer) (readPlace (take len buffer) (position r))
     section =
         let f = ready-read in
-        number-inside buffer len r (s .inside) (s .bytes) (s .accepted) (s .formed) below 2 p (omega arith) ∙ ap (sectionLength (take len buffer)) at
+        sym (number-take 2 p len buffer (omega arith) (s .inside)) ∙ ap (sectionLength (take len buffer)) at
 
     pub section-least : 16 ≤ sectionLength buffer p
     section-least = let l = section-length buffer len r (s .inside) (s .bytes) (s .accepted) (s .formed) below in omega (arith, section, l)
@@ -138,7 +139,7 @@ module _ {buffer : List ℕ} {len p : ℕ} {r : List ℕ} (s : Ready buffer len 
     pub reads-least : 1 ≤ readCount buffer
     reads-least =
         let g = ready-header in
-        let n = number-inside buffer len r (s .inside) (s .bytes) (s .accepted) (s .formed) below 4 20 (omega arith) in
+        let n = number-take 4 20 len buffer (omega arith) (s .inside) in
         omega (arith, n, below)
 
     module _ {F : ℕ} (f : F ≡ number 2 28 buffer) {n : ℕ} (m : n ≡ readEnd F (take len buffer) p) where

@@ -9,9 +9,9 @@ use lib.ListN.{length, take, drop, length-append, length-take, length-drop}
 use lib.Seq.{length-take-le, take-at, drop-at}
 use Rattle.octets.specs.Parts.{part, putAt, filled, settled, spliced, up8}
 use Rattle.octets.specs.Numbers.{Bytes, number, bytesOf, fields, words, wordsAt}
-use Rattle.octets.proofs.Lists.{length-put, put-over, part-take, length-part}
+use Rattle.octets.proofs.Lists.{length-put, put-over, length-part}
 use Rattle.octets.proofs.Digits.{length-bytesOf}
-use Rattle.octets.proofs.Stands.{stands-read, words-stand, length-words, length-fields, length-filled, field-filled}
+use Rattle.octets.proofs.Stands.{stands-read, words-stand, length-words, length-fields, length-filled, field-filled, number-take}
 use Rattle.octets.proofs.Settled.{settled-front, settled-put, splice-settled}
 use Rattle.sff_format.specs.declared.Answer.the-variants.{Accepted}
 use Rattle.sff_format.specs.Model.{Read, noIndex, readFields, layoutReadHeader, layoutReadData, layoutRead, layout}
@@ -143,12 +143,6 @@ module _ (buffer : List ℕ) (len : ℕ) (r : List ℕ) (h : len ≤ length buff
         ap (putAt (p + 8) (part 8 8 r)) (sym s) ∙ settled-put (p + 8) (part 8 8 r) file len buffer (omega (arith, l, f))
         ∙ ap (λ (l : List ℕ). settled l len buffer) clipped-file ∙ ap (λ (n : ℕ). settled (corrected buffer len r) n buffer) (sym m)
 
-  -- the numbers of the read as the code reads them in the buffer
-  module _ (w k : ℕ) (inside : k + w ≤ len) where
-    pub number-inside : number w k buffer ≡ number w k file
-    unfolding number
-    number-inside = rw (part-take k w len buffer inside h)
-
   read-is : read ≡ parseRead (flows file) file p
   read-is = read-found file y e (position r) i
 
@@ -223,7 +217,7 @@ module _ (buffer : List ℕ) (len : ℕ) (r : List ℕ) (h : len ≤ length buff
       old-room =
           let s = read-inside in
           let f : p + 16 ≤ length file = fits-16 (flowCharacters file) file p (read-accepted file (position r) e i) in
-          let n = number-inside 2 p (omega (arith, f, file-length)) in
+          let n = number-take 2 p len buffer (omega (arith, f, file-length)) h in
           let t = section-length in
           omega (arith, n, t, padded-length)
 
@@ -297,7 +291,7 @@ module _ (buffer : List ℕ) (len : ℕ) (r : List ℕ) (h : len ≤ length buff
       fewer =
           let c = reads-counted file in
           let g : 31 ≤ length file = fits-31 file (head-ok file e) in
-          let m : readCount buffer ≡ readCount file = number-inside 4 20 (omega (arith, g, file-length)) in
+          let m : readCount file ≡ readCount buffer = number-take 4 20 len buffer (omega (arith, g, file-length)) h in
           let f : length (replaced (position r) [] (parse file .reads)) ≡ length (parse file .reads) - 1 = simp (length-append, length-take, length-drop) (omega (arith, c, i)) in
           omega (arith, f, c, m)
 

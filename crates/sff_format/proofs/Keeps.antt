@@ -1,4 +1,4 @@
--- Lists of reads that keep the rules, and a file that still does with another read in the place of one, or with one left out. Assumes nothing.
+-- Lists of reads that keep the rules, a file with no index, and a file that still keeps the rules with another read in the place of one, or with one left out. Assumes nothing.
 use Prim.Native.Nat.{ℕ, zero, suc, _+_, _≤_, _<_}
 use mathlib.Core.Path.{_≡_, refl, sym, ap, _∙_}
 use mathlib.Core.Bool.{true, false}
@@ -10,6 +10,7 @@ use Rattle.sff_format.specs.Model.{Read, Index, File, noIndex, layoutRea
 use Rattle.sff_format.specs.Rules.{declared}
 use Rattle.sff_format.specs.Valid.{ValidRead, ValidReads, Boundary, Valid}
 use Rattle.sff_format.specs.Places.{noRead, readAt, replaced}
+use Rattle.sff_format.proofs.Boundaries.{undeclared}
 use Rattle.sff_format.proofs.Appended.{header-same}
 
 module _ (characters : List ℕ) where
@@ -54,11 +55,24 @@ front-replaced (suc k) i [] r h e = absurd (let a : ⊥ = omega arith in a)
 front-replaced (suc k) zero (x ∷ rs) r h e = rw (length-append, length-append, e)
 front-replaced (suc k) (suc i) (x ∷ rs) r h e = rw (length-append, length-append, front-replaced k i rs r (omega arith) e)
 
--- none is declared
-not-declared : {A : Type 0} (f : File) → f .index ≡ noIndex → declared (f .index .offset) (length (f .index .bytes)) ≡ true → A
+-- an index is declared exactly if there is one
+pub none-declared : (f : File) → f .index ≡ noIndex → declared (f .index .offset) (length (f .index .bytes)) ≡ false
 unfolding declared
+none-declared f e = ap (λ (x : Index). declared (x .offset) (length (x .bytes))) e
+
+nothing : (l : List ℕ) → length l ≡ 0 → l ≡ []
+nothing [] e = refl
+nothing (x ∷ l) e = absurd (let a : ⊥ = omega arith in a)
+
+pub no-index : (f : File) → declared (f .index .offset) (length (f .index .bytes)) ≡ false → f .index ≡ noIndex
+no-index f d =
+    let u = undeclared (f .index .offset) (length (f .index .bytes)) d in
+    let n : f .index .bytes ≡ [] = nothing (f .index .bytes) (u .1) in
+    λ j. record { offset = u .0 j; bytes = n j }
+
+not-declared : {A : Type 0} (f : File) → f .index ≡ noIndex → declared (f .index .offset) (length (f .index .bytes)) ≡ true → A
 not-declared f e d =
-    let t : false ≡ true = sym (ap (λ (x : Index). declared (x .offset) (length (x .bytes))) e) ∙ d in
+    let t : false ≡ true = sym (none-declared f e) ∙ d in
     absurd (let z : _≡_ {A = ℕ} 0 1 = cc in let a : ⊥ = omega arith in a)
 
 -- other reads, as many or fewer, that keep the rules and the index's boundary

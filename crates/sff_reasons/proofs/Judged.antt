@@ -21,6 +21,7 @@ use Rattle.sff_format.proofs.HeaderLaws.{fits-31, header-fits, characters-lengt
 use Rattle.sff_format.proofs.Indexes.{index-length}
 use Rattle.sff_format.proofs.ReadLaid.{fits-16, section-is, section-fits, data-fits}
 use Rattle.sff_format.proofs.FileLaid.{head-ok, reads-counted, index-passed, file-laid, file-valid}
+use Rattle.sff_format.proofs.Keeps.{no-index}
 use Rattle.sff_format.proofs.Places.{read-found}
 use Rattle.sff_format.proofs.Positions.{read-accepted}
 use Rattle.sff_format.proofs.Runs.{reads-before, reads-after, before-accepted, after-accepted, after-inside}
@@ -28,7 +29,6 @@ use Rattle.sff_correction.specs.Record.{kind, position, oldLength, newLength, o
 use Rattle.sff_correction.specs.Edit.{target, edited}
 use Rattle.sff_correction.specs.Reasons.{clipsAbove, others, bears, reasons}
 use Rattle.sff_correction.proofs.Records.{record-96, old-most, new-most, new-size}
-use Rattle.sff_correction.proofs.Edited.{no-index}
 use Rattle.sff_correction.proofs.NoReasons.{bears-append}
 use Rattle.sff_correction.proofs.EditedSizes.{clips-size, name-size, none-size}
 use Rattle.sff_reasons.specs.Found.{Found, Plain}

@@ -4,13 +4,14 @@
 use Prim.Native.Nat.{ℕ, suc, _+_, _-_, _/_, _%_, _≤_, _<_, max}
 use mathlib.Core.Path.{_≡_, refl, sym, ap, _∙_}
 use mathlib.Core.Bool.{false}
-use mathlib.Core.Logic.{_↔_}
+use mathlib.Core.Logic.{_↔_, _⊎_, inl, inr, ⊎-elim}
 use mathlib.Core.List.{List, [], _∷_, _++_}
 use native.Mathlib.Omega.{arith}
 use lib.ListN.{length, take, drop}
 use Rattle.octets.specs.Parts.{putAt, settled}
 use Rattle.octets.specs.Numbers.{Bytes, bytesOf}
 use Rattle.octets.proofs.AllBytes.{bytes-take}
+use Rattle.sff_format.specs.declared.Answer.{Answer}
 use Rattle.sff_format.specs.declared.Answer.the-variants.{Accepted, Refused}
 use Rattle.sff_format.specs.Answer.{numberOf, _then_}
 use Rattle.sff_format.specs.Rules.{declared}
@@ -24,6 +25,7 @@ use Rattle.sff_format.specs.Insert.{insertFirst, insertLast, insertOf}
 use Rattle.sff_format.specs.Step.{State, fresh, stepTest, lastAnswer, readBack}
 use Rattle.sff_format.specs.Position.{positionTest, signalTest, viewOf, insertStretch, fileInsert, fileFirst, fileLast}
 use Rattle.sff_format.specs.Writing.{newTest, givenTest, appendTest, appendBuffer, writeEach, Holder, Lent, AllLent}
+use Rattle.sff_format.proofs.Answers.{not-accepted}
 use Rattle.sff_format.proofs.Format.{accepted, one-file}
 use Rattle.sff_format.proofs.FileLaid.{file-laid}
 use Rattle.sff_format.proofs.FileTaken.{file-back}
@@ -158,8 +160,8 @@ append-refuses-exactly buffer len r y t h e i n m =
     ((λ z. a .0 (append-zero buffer len r z)), (λ k. ap numberOf (a .1 k)))
 
 -- Demand 3, one record. "Whatever bytes are lent as file and record and whatever length is stated: carried out with 0 exactly when no reason to refuse holds": the length is within the buffer (not 14), the
--- record is the 96 bytes of a correction (not 20), the file keeps the rules (none of its own), and none of the record's own reasons holds (21, 22, 25, 23, 24, 26). "else the first that holds in
--- document 01's order" is `correctTest`, which is the answer.
+-- record is the 96 bytes of a correction (not 20), the file keeps the rules (none of its own), and none of the record's own reasons holds (21, 22, 25, 23, 24, 26). For "else the first that
+-- holds in document 01's order" see `answer-in-order` and `first-that-refuses`.
 pub corrected-exactly : (buffer : List ℕ) (len : ℕ) (r : List ℕ) → Bytes buffer → Bytes r
     → (numberOf (correctOutcome buffer len r .answer) ≡ 0)
     ↔ ((len ≤ length buffer) × ((c : Correction) × ValidCorrection c × (layoutRecord c ≡ r)) × ((f : File) × Valid f × (layout f ≡ take len buffer))
@@ -183,9 +185,15 @@ corrected-exactly buffer len r y z = (
       ),
 )
 
+-- "else the first that holds in document 01's order": the answer is `correctTest`, tests in that order joined by `then`, and such a chain is refused by a test exactly if all before it accept
 pub answer-in-order : (buffer : List ℕ) (len : ℕ) (r : List ℕ) → correctOutcome buffer len r .answer ≡ correctTest buffer len r
 unfolding correctOutcome
 answer-in-order buffer len r = refl
+
+pub first-that-refuses : (a b : Answer) (n p : ℕ) → ((a then b) ≡ Refused n p) ↔ ((a ≡ Refused n p) ⊎ ((a ≡ Accepted) × (b ≡ Refused n p)))
+unfolding _then_
+first-that-refuses Accepted b n p = ((λ e. inr (refl, e)), (λ t. ⊎-elim (λ e. not-accepted n p (sym e)) (λ k. k .1) t))
+first-that-refuses (Refused m q) b n p = ((λ e. inl e), (λ t. ⊎-elim (λ e. e) (λ k. not-accepted m q (k .0)) t))
 
 -- "A refused correction changes no byte of the file's buffer", and the length is "the length given"
 pub refused-unchanged : (buffer : List ℕ) (len : ℕ) (r : List ℕ) (n p : ℕ) → correctOutcome buffer len r .answer ≡ Refused n p
@@ -240,8 +248,8 @@ first-of-list room l f all = (
 )
 
 -- "A list's length is a multiple of 96, else 20 before all else, with nothing done"; "An empty list is carried out with count 0, the file untested and the length as given"
-pub list-of-no-records : (buffer : List ℕ) (len : ℕ) (l : List ℕ) → (length l % 96 ≡ 0 → ⊥) → runList buffer len l ≡ ran 0 (Refused 20 0) len buffer
-list-of-no-records = list-20
+pub list-not-whole : (buffer : List ℕ) (len : ℕ) (l : List ℕ) → (length l % 96 ≡ 0 → ⊥) → runList buffer len l ≡ ran 0 (Refused 20 0) len buffer
+list-not-whole = list-20
 
 pub empty-list : (buffer : List ℕ) (len : ℕ) → runList buffer len [] ≡ ran 0 Accepted len buffer
 empty-list buffer len = list-none buffer len [] refl refl

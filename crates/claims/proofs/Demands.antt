@@ -11,9 +11,9 @@ use lib.ListN.{length, take, drop}
 use Rattle.octets.specs.Parts.{putAt, settled}
 use Rattle.octets.specs.Numbers.{Bytes, bytesOf}
 use Rattle.octets.proofs.AllBytes.{bytes-take}
-use Rattle.sff_format.specs.declared.Answer.{Answer}
-use Rattle.sff_format.specs.declared.Answer.the-variants.{Accepted, Refused}
-use Rattle.sff_format.specs.Answer.{numberOf, _then_}
+use Rattle.answers.specs.declared.Answer.{Answer}
+use Rattle.answers.specs.declared.Answer.the-variants.{Accepted, Refused}
+use Rattle.answers.specs.Answer.{numberOf, _then_}
 use Rattle.sff_format.specs.Rules.{declared}
 use Rattle.sff_format.specs.Model.{Read, File, noIndex, layoutRead, layoutReads, layout, withReads}
 use Rattle.sff_format.specs.Valid.{ValidRead, Valid}
@@ -25,7 +25,7 @@ use Rattle.sff_format.specs.Insert.{insertFirst, insertLast, insertOf}
 use Rattle.sff_format.specs.Step.{State, fresh, stepTest, lastAnswer, readBack}
 use Rattle.sff_format.specs.Position.{positionTest, signalTest, viewOf, insertStretch, fileInsert, fileFirst, fileLast}
 use Rattle.sff_format.specs.Writing.{newTest, givenTest, appendTest, appendBuffer, writeEach, Holder, Lent, AllLent}
-use Rattle.sff_format.proofs.Answers.{not-accepted}
+use Rattle.answers.proofs.Answers.{not-accepted}
 use Rattle.sff_format.proofs.Format.{accepted, one-file}
 use Rattle.sff_format.proofs.FileLaid.{file-laid}
 use Rattle.sff_format.proofs.FileTaken.{file-back}

@@ -1,9 +1,9 @@
 -- Every row of the table of marked cases holds, computed from the definitions. Assumes nothing.
 use mathlib.Core.Path.{refl}
 use Rattle.octets.specs.Parts.{wholePart, putAt, filled, insertAt, settled, same}
-use Rattle.octets.specs.Numbers.{bigEndianFrom, number, bytesOf, fields, words, wordsAt}
+use Rattle.octets.specs.Numbers.{bigEndianFrom, number, bytesOf, fields, words, wordsAt, unitBytes, unitsAt}
 use Rattle.octets.specs.Scans.{run, firstNot}
-use Rattle.sff_format.specs.Answer.{when, shifted, _then_, acceptedOr}
+use Rattle.answers.specs.Answer.{when, shifted, _then_, acceptedOr}
 use Rattle.sff_format.specs.Rules.{declared, badIndexLength, badIndex, indexSize, leftLimit, rightLimit, isFlow, walkRun, isCall, callRun}
 use Rattle.sff_format.specs.Model.{headerFields, layoutHeader, readFields, layoutReadHeader, layoutReadData, layoutRead, layoutReads, layoutIndex, layout}
 use Rattle.sff_format.specs.HeaderTest.{fixedTest, charactersTest, headerTest}
@@ -22,5 +22,5 @@ use Rattle.sff_correction.specs.Correct.{correctTest, correctOutcome, correctBu
 use Rattle.claims.specs.Marked.{All, table}
 
 pub marked : All table
-unfolding wholePart putAt filled insertAt settled same bigEndianFrom number bytesOf fields words wordsAt run firstNot when shifted _then_ declared badIndexLength badIndex indexSize leftLimit rightLimit isFlow walkRun isCall callRun headerFields layoutHeader readFields layoutReadHeader layoutReadData layoutRead layoutReads layoutIndex layout fixedTest charactersTest headerTest nameTest clipTest basesTest dataTest readTest readEnd indexDue passTest indexTest pastIndex endTest boundaryTest fileTest parseRead parseReads parse placeFrom readPlace firstBase rightEnd lastBase viewAt positionTest acceptedOr insertStretch fileInsert fileFirst fileLast nameFieldTest unusedTest newClipsTest newNameTest recordTest recordFields layoutRecord instead edited clipsAbove bears reasons correctTest correctOutcome correctBuffer
+unfolding wholePart putAt filled insertAt settled same bigEndianFrom number bytesOf fields unitBytes unitsAt run firstNot when shifted _then_ declared badIndexLength badIndex indexSize leftLimit rightLimit isFlow walkRun isCall callRun headerFields layoutHeader readFields layoutReadHeader layoutReadData layoutRead layoutReads layoutIndex layout fixedTest charactersTest headerTest nameTest clipTest basesTest dataTest readTest readEnd indexDue passTest indexTest pastIndex endTest boundaryTest fileTest parseRead parseReads parse placeFrom readPlace firstBase rightEnd lastBase viewAt positionTest acceptedOr insertStretch fileInsert fileFirst fileLast nameFieldTest unusedTest newClipsTest newNameTest recordTest recordFields layoutRecord instead edited clipsAbove bears reasons correctTest correctOutcome correctBuffer
 marked = (refl, (refl, (refl, ((refl, refl, refl), (refl, (refl, (refl, (refl, (refl, (refl, (refl, (refl, (refl, (refl, ((refl, refl), ((refl, refl), ((refl, refl), ((refl, refl), tt))))))))))))))))))

@@ -1,7 +1,7 @@
 // C exports of the library's calls, for tests alone: each copies out what its call answers. No host calls them.
 ghost use mathlib.Core.Path.{_≡_};
 ghost use lib.ListN.{length};
-ghost use Rattle.sff_format.specs.Answer.{numberOf, placeOf};
+ghost use Rattle.answers.specs.Answer.{numberOf, placeOf};
 ghost use Rattle.sff_format.specs.FileTest.{fileTest};
 ghost use Rattle.sff_format.specs.Step.{fresh, step, found, stop};
 ghost use Rattle.sff_format.specs.Position.{positionTest, signalTest, fileInsert, fileFirst, fileLast};
@@ -11,12 +11,12 @@ ghost use Rattle.sff_correction.specs.ListRun.{runList};
 ghost use Rattle.sff_reader.specs.Forms.{stateOf};
 ghost use Rattle.sff_signal.specs.Signal.{fileSignal};
 ghost use Rattle.harness.specs.Outs.{stateFrom, flag, viewClips, SmallClips, steppedWith, steppedOf, putFront, clipsFrom};
+use answers::Answer;
 use octets::copy;
 use sff::file_test;
 use sff_corrector::correct;
 use sff_corrector::correct_list;
 use sff_find::position_test;
-use sff_format::Answer;
 use sff_format::Clips;
 use sff_format::ReadView;
 use sff_insert::insert;

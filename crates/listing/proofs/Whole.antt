@@ -10,7 +10,7 @@ use borrow.Author.Tests.{ltb-false, lt-ltb, le-ltb, not-true, not-false}
 use Rattle.octets.specs.Parts.{wholePart}
 use Rattle.octets.specs.Numbers.{Bytes}
 use Rattle.octets.proofs.Lists.{whole-in}
-use Rattle.sff_format.specs.declared.Answer.the-variants.{Accepted, Refused}
+use Rattle.answers.specs.declared.Answer.the-variants.{Accepted, Refused}
 use Rattle.sff_format.specs.HeaderTest.{readCount, headerLength, keyLength, flows, keyCharacters}
 use Rattle.sff_format.specs.FileTest.{fileTest}
 use Rattle.sff_format.specs.Parse.{parse}

@@ -7,7 +7,7 @@ use native.Mathlib.Omega.{arith}
 use native.Mathlib.Nat.{mod-lt}
 use lib.ListN.{length, take, drop, getD, replicate}
 use Rattle.octets.specs.Parts.{part, filled}
-use Rattle.octets.specs.Numbers.{Bytes, bytesOf, fields, words}
+use Rattle.octets.specs.Numbers.{Bytes, bytesOf, fields, unitBytes}
 use Rattle.octets.specs.Scans.{run, Every}
 
 -- a slice's elements are bytes: `c .slice-known .given` says so of each
@@ -51,10 +51,10 @@ unfolding fields
 bytes-fields [] = tt
 bytes-fields (x ∷ xs) = bytes-both (bytesOf (x .0) (x .1)) (fields xs) (bytes-bytesOf (x .0) (x .1)) (bytes-fields xs)
 
-pub bytes-words : (vs : List ℕ) → Bytes (words vs)
-unfolding words
-bytes-words [] = tt
-bytes-words (v ∷ vs) = bytes-both (bytesOf 2 v) (words vs) (bytes-bytesOf 2 v) (bytes-words vs)
+pub bytes-units : (w : ℕ) (vs : List ℕ) → Bytes (unitBytes w vs)
+unfolding unitBytes
+bytes-units w [] = tt
+bytes-units w (v ∷ vs) = bytes-both (bytesOf w v) (unitBytes w vs) (bytes-bytesOf w v) (bytes-units w vs)
 
 pub bytes-filled : (n : ℕ) (xs : List ℕ) → Bytes xs → Bytes (filled n xs)
 unfolding filled

@@ -3,12 +3,13 @@ use Prim.Native.Nat.{ℕ, zero, suc, _+_, _-_, _*_, _^_, _≤_, _<_, min}
 use mathlib.Core.Path.{_≡_, refl, sym, ap, _∙_}
 use mathlib.Core.Bool.{Bool, true, false}
 use mathlib.Core.List.{List, [], _∷_, _++_}
+use native.Mathlib.Nat.{mul-suc}
 use native.Mathlib.Omega.{arith}
 use borrow.Author.Tests.{eqb-true}
 use lib.ListN.{length, take, drop, replicate, length-append, length-take, length-drop, length-replicate}
 use lib.Seq.{take-add, drop-drop, take-at, drop-at, take-length}
 use Rattle.octets.specs.Parts.{part, filled, Stands}
-use Rattle.octets.specs.Numbers.{bigEndian, bytesOf, Bytes, number, fields, words, wordsAt, Words}
+use Rattle.octets.specs.Numbers.{bigEndian, bytesOf, Below, Bytes, number, fields, unitBytes, unitsAt}
 use Rattle.octets.specs.Scans.{run, isZero, Every, fails}
 use Rattle.octets.proofs.Lists.{length-part, part-take}
 use Rattle.octets.proofs.Digits.{length-bytesOf, bigEndian-fits, bytesOf-bigEndian, bigEndian-small}
@@ -171,34 +172,38 @@ stand-fields b (x ∷ xs) p k h f s =
       stand-fields b xs p (k + x .0) (omega arith) (f .1) (stands-right (p + k) (p + (k + x .0)) (bytesOf (x .0) (x .1)) (fields xs) b e h s),
     )
 
--- words
-pub length-words : (vs : List ℕ) → length (words vs) ≡ 2 * length vs
-unfolding words
-length-words [] = refl
-length-words (v ∷ vs) = rw (length-append, length-bytesOf, length-words vs) (omega arith)
+-- numbers of the same width, one after another
+pub length-units : (w : ℕ) (vs : List ℕ) → length (unitBytes w vs) ≡ w * length vs
+unfolding unitBytes
+length-units w [] = omega arith
+length-units w (v ∷ vs) = length-append (bytesOf w v) (unitBytes w vs) ∙ rw (length-bytesOf w v, length-units w vs, mul-suc w (length vs)) (omega arith)
 
-pub length-wordsAt : (n p : ℕ) (b : List ℕ) → length (wordsAt n p b) ≡ n
-unfolding wordsAt
-length-wordsAt zero p b = refl
-length-wordsAt (suc n) p b = ap suc (length-wordsAt n (p + 2) b)
+pub length-unitsAt : (w n p : ℕ) (b : List ℕ) → length (unitsAt w n p b) ≡ n
+unfolding unitsAt
+length-unitsAt w zero p b = refl
+length-unitsAt w (suc n) p b = ap suc (length-unitsAt w n (p + w) b)
 
-pub words-stand : (b : List ℕ) → Bytes b → (n p : ℕ) → p + 2 * n ≤ length b → Stands p (words (wordsAt n p b)) b
-unfolding words wordsAt
-words-stand b y zero p h = refl
-words-stand b y (suc n) p h =
-    stands-both p (p + 2) (bytesOf 2 (number 2 p b)) (words (wordsAt n (p + 2) b)) b (rw length-bytesOf)
-    (number-stands 2 p b y (omega arith)) (words-stand b y n (p + 2) (omega arith))
+-- one more of them
+more : (w n p l : ℕ) → p + w * suc n ≤ l → (p + w ≤ l) × (p + w + w * n ≤ l)
+more w n p l h = let e = mul-suc w n in omega arith
 
-pub stand-words : (b : List ℕ) (vs : List ℕ) (p : ℕ) → p ≤ length b → Words vs → Stands p (words vs) b → wordsAt (length vs) p b ≡ vs
-unfolding words wordsAt
-stand-words b [] p h f s = refl
-stand-words b (v ∷ vs) p h f s =
-    let one : Stands p (bytesOf 2 v) b = stands-left p (bytesOf 2 v) (words vs) b h s in
-    let e : p + 2 ≡ p + length (bytesOf 2 v) = rw length-bytesOf in
-    let g : p + length (bytesOf 2 v) ≤ length b = stands-fits p (bytesOf 2 v) b one h in
-    rw (stands-number 2 p v b (f .0) one, stand-words b vs (p + 2) (omega arith) (f .1) (stands-right p (p + 2) (bytesOf 2 v) (words vs) b e h s))
+pub units-stand : (w : ℕ) (b : List ℕ) → Bytes b → (n p : ℕ) → p + w * n ≤ length b → Stands p (unitBytes w (unitsAt w n p b)) b
+unfolding unitBytes unitsAt
+units-stand w b y zero p h = refl
+units-stand w b y (suc n) p h =
+    stands-both p (p + w) (bytesOf w (number w p b)) (unitBytes w (unitsAt w n (p + w) b)) b (rw length-bytesOf)
+    (number-stands w p b y (more w n p (length b) h .0)) (units-stand w b y n (p + w) (more w n p (length b) h .1))
 
-pub words-small : (b : List ℕ) → Bytes b → (n p : ℕ) → p + 2 * n ≤ length b → Words (wordsAt n p b)
-unfolding wordsAt
-words-small b y zero p h = tt
-words-small b y (suc n) p h = (number-small 2 p b y (omega arith), words-small b y n (p + 2) (omega arith))
+pub stand-units : (w : ℕ) (b : List ℕ) (vs : List ℕ) (p : ℕ) → p ≤ length b → Below (256 ^ w) vs → Stands p (unitBytes w vs) b → unitsAt w (length vs) p b ≡ vs
+unfolding unitBytes unitsAt
+stand-units w b [] p h f s = refl
+stand-units w b (v ∷ vs) p h f s =
+    let one : Stands p (bytesOf w v) b = stands-left p (bytesOf w v) (unitBytes w vs) b h s in
+    let e : p + w ≡ p + length (bytesOf w v) = rw length-bytesOf in
+    let g : p + length (bytesOf w v) ≤ length b = stands-fits p (bytesOf w v) b one h in
+    rw (stands-number w p v b (f .0) one, stand-units w b vs (p + w) (omega arith) (f .1) (stands-right p (p + w) (bytesOf w v) (unitBytes w vs) b e h s))
+
+pub units-small : (w : ℕ) (b : List ℕ) → Bytes b → (n p : ℕ) → p + w * n ≤ length b → Below (256 ^ w) (unitsAt w n p b)
+unfolding unitsAt
+units-small w b y zero p h = tt
+units-small w b y (suc n) p h = (number-small w p b y (more w n p (length b) h .0), units-small w b y n (p + w) (more w n p (length b) h .1))

@@ -8,18 +8,18 @@ use borrow.Author.Needs.{needs}
 use lib.ListN.{length, take, set, getD, length-set}
 use lib.Seq.{take-suc, take-all, length-take-le}
 use Rattle.octets.specs.Parts.{putAt}
-use Rattle.octets.specs.Numbers.{bytesOf, words}
+use Rattle.octets.specs.Numbers.{bytesOf, unitBytes, words}
 use Rattle.octets.proofs.Lists.{put-nil, put-next}
 use Rattle.octets.proofs.Digits.{put-two}
-use Rattle.octets.proofs.Stands.{length-words}
+use Rattle.octets.proofs.Stands.{length-units}
 
 words-append : (vs ws : List ℕ) → words (vs ++ ws) ≡ words vs ++ words ws
-unfolding words
+unfolding unitBytes
 words-append [] ws = refl
 words-append (v ∷ vs) ws = rw (words-append vs ws, append-assoc)
 
 words-one : (v : ℕ) → words (v ∷ []) ≡ bytesOf 2 v
-unfolding words
+unfolding unitBytes
 words-one v = append-nil (bytesOf 2 v)
 
 -- s is s₀ with the first j of the numbers vs put
@@ -30,14 +30,14 @@ pub record Worded (at : ℕ) (vs s₀ s : List ℕ) (j : ℕ) : Type 0 where
   pub is : s ≡ putAt at (words (take j vs)) s₀
 
 pub worded-start : (at : ℕ) (vs s₀ : List ℕ) → at + 2 * length vs ≤ length s₀ → Worded at vs s₀ s₀ 0
-unfolding words
+unfolding unitBytes
 worded-start at vs s₀ h = record { fits = h; low = omega arith; same = refl; is = sym (put-nil at s₀) }
 
 module _ {at : ℕ} {vs s₀ s : List ℕ} {j : ℕ} (w : Worded at vs s₀ s j) where
   pub worded-more : j < length vs → (v : ℕ) → v ≡ getD vs j 0 → Worded at vs s₀ (set (set s (at + 2 * j) (v / 256 % 256)) (at + 2 * j + 1) (v % 256)) (j + 1)
   worded-more h v e =
       let count : length (take j vs) ≡ j = length-take-le j vs (omega arith) in
-      let len : length (words (take j vs)) ≡ 2 * j = length-words (take j vs) ∙ ap (λ (n : ℕ). 2 * n) count in
+      let len : length (words (take j vs)) ≡ 2 * j = length-units 2 (take j vs) ∙ ap (λ (n : ℕ). 2 * n) count in
       let next : words (take (j + 1) vs) ≡ words (take j vs) ++ bytesOf 2 v =
       rw (add-one, take-suc vs j 0, words-append, words-one, e) in
       record {

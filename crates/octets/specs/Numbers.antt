@@ -3,10 +3,14 @@ use Prim.Native.Nat.{ℕ, zero, suc, _+_, _*_, _/_, _%_, _^_, _<_}
 use mathlib.Core.List.{List, [], _∷_, _++_}
 use Rattle.octets.specs.Parts.{part}
 
+-- every element is below m
+abbrev pub Below : ℕ → List ℕ → Type 0
+Below m [] = Unit {0}
+Below m (x ∷ xs) = (x < m) × Below m xs
+
 -- every element is a byte
 abbrev pub Bytes : List ℕ → Type 0
-Bytes [] = Unit {0}
-Bytes (x ∷ xs) = (x < 256) × Bytes xs
+Bytes xs = Below 256 xs
 
 -- the number that a, followed by the digits xs to base 256, spells
 unfoldable pub bigEndianFrom : ℕ → List ℕ → ℕ
@@ -31,17 +35,22 @@ unfoldable pub fields : List (ℕ × ℕ) → List ℕ
 fields [] = []
 fields (x ∷ xs) = bytesOf (x .0) (x .1) ++ fields xs
 
--- numbers of 2 bytes each
-unfoldable pub words : List ℕ → List ℕ
-words [] = []
-words (v ∷ vs) = bytesOf 2 v ++ words vs
+-- numbers of w bytes each
+unfoldable pub unitBytes : ℕ → List ℕ → List ℕ
+unitBytes w [] = []
+unitBytes w (v ∷ vs) = bytesOf w v ++ unitBytes w vs
 
--- each fits 2 bytes
+-- the n numbers of w bytes from place p on
+unfoldable pub unitsAt : ℕ → ℕ → ℕ → List ℕ → List ℕ
+unitsAt w zero p b = []
+unitsAt w (suc n) p b = number w p b ∷ unitsAt w n (p + w) b
+
+-- the same of 2 bytes, and that each fits them
+abbrev pub words : List ℕ → List ℕ
+words vs = unitBytes 2 vs
+
+abbrev pub wordsAt : ℕ → ℕ → List ℕ → List ℕ
+wordsAt n p b = unitsAt 2 n p b
+
 abbrev pub Words : List ℕ → Type 0
-Words [] = Unit {0}
-Words (v ∷ vs) = (v < 65536) × Words vs
-
--- the n numbers of 2 bytes from place p on
-unfoldable pub wordsAt : ℕ → ℕ → List ℕ → List ℕ
-wordsAt zero p b = []
-wordsAt (suc n) p b = number 2 p b ∷ wordsAt n (p + 2) b
+Words vs = Below 65536 vs

@@ -5,9 +5,9 @@ use mathlib.Core.List.{List, _++_, append-nil}
 use native.Mathlib.Omega.{arith}
 use lib.ListN.{length, length-append}
 use borrow.Author.Tests.{lt-ltb, le-ltb}
-use Rattle.sff_format.specs.declared.Answer.{Answer}
-use Rattle.sff_format.specs.declared.Answer.the-variants.{Accepted, Refused}
-use Rattle.sff_format.specs.Answer.{numberOf, placeOf}
+use Rattle.answers.specs.declared.Answer.{Answer}
+use Rattle.answers.specs.declared.Answer.the-variants.{Accepted, Refused}
+use Rattle.answers.specs.Answer.{numberOf, placeOf}
 use Rattle.sff_correction.specs.declared.ListOutcome.{ListOutcome}
 use Rattle.text.specs.Writing.{Room, Wrote}
 use Rattle.text.proofs.Writing.{room, Put, nothing-put, text-put}

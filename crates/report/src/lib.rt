@@ -7,11 +7,11 @@ ghost use Rattle.io.specs.Counts.{Counts};
 ghost use Rattle.text.specs.Writing.{Room, Wrote};
 ghost use Rattle.lines.specs.Lines.{refusalLine, tooLong, answerLine};
 ghost use Rattle.report.specs.Report.{reported, inRoom, isWritten};
+use answers::Answer;
 use lines::inner::put_answer_line;
 use lines::inner::put_refusal_line;
 use lines::inner::put_too_long;
 use sff_correction::ListOutcome;
-use sff_format::Answer;
 
 // Puts the lines of a run that was refused.
 fn put_refused(out: &mut [u8], count: usize, number: usize, place: usize, size: usize) -> usize

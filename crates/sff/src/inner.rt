@@ -4,7 +4,7 @@ ghost use Prim.Native.Nat.{_≤_};
 ghost use lib.ListN.{length};
 ghost use Rattle.sff_format.specs.FileTest.{indexDue, passTest, pastIndex, nowPassed, endTest};
 ghost use Rattle.sff_header.specs.Header.{headerOf, Small};
-use sff_format::Answer;
+use answers::Answer;
 use sff_header::Header;
 use sff_header::inner::index_size;
 use sff_header::inner::is_declared;

@@ -1,7 +1,7 @@
 // The whole-file test. It only reads the lent file.
 ghost use mathlib.Core.Path.{_≡_};
 ghost use mathlib.Core.Bool.{false};
-ghost use Rattle.sff_format.specs.declared.Answer.the-variants.{Accepted};
+ghost use Rattle.answers.specs.declared.Answer.the-variants.{Accepted};
 ghost use Rattle.sff_format.specs.HeaderTest.{headerTest, readCount, headerLength};
 ghost use Rattle.sff_format.specs.FileTest.{boundaryTest, fileTest};
 ghost use Rattle.sff_header.specs.Header.{headerOf, Small};
@@ -11,7 +11,7 @@ pub mod inner;
 use crate::inner::end_test;
 use crate::inner::index_due;
 use crate::inner::pass_test;
-use sff_format::Answer;
+use answers::Answer;
 use sff_header::Header;
 use sff_header::header_test;
 use sff_header::inner::header_fields;

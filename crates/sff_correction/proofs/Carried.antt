@@ -7,12 +7,12 @@ use borrow.Author.Tests.{le-ltb}
 use lib.ListN.{length, take}
 use Rattle.octets.specs.Numbers.{Bytes}
 use Rattle.octets.proofs.Settled.{take-settled, length-settled}
-use Rattle.sff_format.specs.declared.Answer.the-variants.{Accepted, Refused}
-use Rattle.sff_format.specs.Answer.{when, acceptedOr, _then_}
+use Rattle.answers.specs.declared.Answer.the-variants.{Accepted, Refused}
+use Rattle.answers.specs.Answer.{when, acceptedOr, _then_}
 use Rattle.sff_format.specs.Valid.{Valid}
 use Rattle.sff_format.specs.FileTest.{fileTest}
 use Rattle.sff_format.specs.Parse.{parse}
-use Rattle.sff_format.proofs.Answers.{first-ok, second-ok, under-ok}
+use Rattle.answers.proofs.Answers.{first-ok, second-ok, under-ok}
 use Rattle.sff_format.proofs.FileLaid.{file-valid}
 use Rattle.sff_format.proofs.FileTaken.{file-taken, file-back}
 use Rattle.sff_correction.specs.Record.{recordTest}

@@ -10,15 +10,15 @@ use lib.Seq.{length-take-le, take-at}
 use borrow.Author.Tests.{ltb-true, not-false}
 use Rattle.octets.specs.Parts.{same}
 use Rattle.octets.specs.Numbers.{Bytes}
-use Rattle.sff_format.specs.declared.Answer.{Answer}
-use Rattle.sff_format.specs.declared.Answer.the-variants.{Accepted, Refused}
-use Rattle.sff_format.specs.Answer.{acceptedOr}
+use Rattle.answers.specs.declared.Answer.{Answer}
+use Rattle.answers.specs.declared.Answer.the-variants.{Accepted, Refused}
+use Rattle.answers.specs.Answer.{acceptedOr}
 use Rattle.sff_format.specs.Rules.{declared}
 use Rattle.sff_format.specs.Model.{Read, File, noIndex, layoutReadHeader, layoutReadData, layoutRead, layoutHeader, layout}
 use Rattle.sff_format.specs.Valid.{ValidRead, Valid}
 use Rattle.sff_format.specs.ReadTest.{clipTest}
 use Rattle.sff_format.specs.Places.{replaced, place}
-use Rattle.sff_format.proofs.Answers.{first-ok, second-ok, when-ok, under-ok}
+use Rattle.answers.proofs.Answers.{first-ok, second-ok, when-ok, under-ok}
 use Rattle.sff_format.proofs.Sizes.{length-head, length-header}
 use Rattle.sff_format.proofs.Keeps.{no-index, valid-at, valid-changed, valid-gone}
 use Rattle.sff_correction.specs.Record.{position, newQualityLeft, newQualityRight, newAdapterLeft, newAdapterRight, oldName, newName, isClips, isRename, recordTest}

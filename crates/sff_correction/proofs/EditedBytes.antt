@@ -10,7 +10,7 @@ use Rattle.octets.specs.Parts.{putAt}
 use Rattle.octets.specs.Numbers.{Bytes, bytesOf}
 use Rattle.octets.proofs.Lists.{put-same}
 use Rattle.octets.proofs.Digits.{put-get}
-use Rattle.sff_format.specs.declared.Answer.the-variants.{Accepted}
+use Rattle.answers.specs.declared.Answer.the-variants.{Accepted}
 use Rattle.sff_format.specs.Model.{Read, File, layoutRead, layoutReads, layout}
 use Rattle.sff_format.specs.Valid.{Valid}
 use Rattle.sff_format.specs.HeaderTest.{readCount}

@@ -12,14 +12,14 @@ use Rattle.octets.specs.Parts.{settled}
 use Rattle.octets.specs.Numbers.{Bytes}
 use Rattle.octets.proofs.AllBytes.{bytes-take, bytes-part}
 use Rattle.octets.proofs.Settled.{take-settled, length-settled, settled-front, settled-again}
-use Rattle.sff_format.specs.declared.Answer.{Answer}
-use Rattle.sff_format.specs.declared.Answer.the-variants.{Accepted, Refused}
-use Rattle.sff_format.specs.Answer.{acceptedOr, when, _then_}
+use Rattle.answers.specs.declared.Answer.{Answer}
+use Rattle.answers.specs.declared.Answer.the-variants.{Accepted, Refused}
+use Rattle.answers.specs.Answer.{acceptedOr, when, _then_}
 use Rattle.sff_format.specs.Model.{File, layout}
 use Rattle.sff_format.specs.Valid.{Valid}
 use Rattle.sff_format.specs.FileTest.{fileTest}
 use Rattle.sff_format.specs.Parse.{parse}
-use Rattle.sff_format.proofs.Answers.{first-ok, second-ok, not-accepted}
+use Rattle.answers.proofs.Answers.{first-ok, second-ok, not-accepted}
 use Rattle.sff_format.proofs.FileLaid.{file-laid, file-valid}
 use Rattle.sff_format.proofs.FileTaken.{file-taken, file-back}
 use Rattle.sff_correction.specs.Record.{recordTest}

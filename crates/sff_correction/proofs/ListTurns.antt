@@ -4,8 +4,8 @@ use mathlib.Core.Path.{_≡_, _∙_}
 use mathlib.Core.List.{List}
 use lib.ListN.{length}
 use borrow.Author.Tests.{eq-eqb, ne-eqb}
-use Rattle.sff_format.specs.declared.Answer.the-variants.{Accepted, Refused}
-use Rattle.sff_format.specs.Answer.{acceptedOr}
+use Rattle.answers.specs.declared.Answer.the-variants.{Accepted, Refused}
+use Rattle.answers.specs.Answer.{acceptedOr}
 use Rattle.sff_correction.specs.Correct.{correctTest, corrected, over}
 use Rattle.sff_correction.specs.ListRun.{recordAt, ran, turns, runList}
 use Rattle.sff_correction.proofs.Carried.{refused-outcome, refused-buffer, done-outcome, done-buffer}

@@ -11,17 +11,18 @@ use lib.Seq.{length-take-le, getD-take, getD-drop}
 use lib.Dec.{ltb}
 use Rattle.octets.specs.Parts.{same}
 use Rattle.octets.proofs.Same.{same-is, is-same}
-use Rattle.sff_format.specs.declared.Answer.{Answer}
-use Rattle.sff_format.specs.declared.Answer.the-variants.{Accepted}
-use Rattle.sff_format.specs.Answer.{numberOf, acceptedOr, _then_}
+use Rattle.answers.specs.declared.Answer.{Answer}
+use Rattle.answers.specs.declared.Answer.the-variants.{Accepted}
+use Rattle.answers.specs.Answer.{numberOf, acceptedOr, _then_}
 use Rattle.sff_format.specs.Model.{Read, File, layout}
 use Rattle.sff_format.specs.ReadTest.{clipTest}
 use Rattle.sff_format.specs.Parse.{parse}
 use Rattle.sff_format.specs.Places.{noRead, replaced}
-use Rattle.sff_format.proofs.Answers.{first-ok, second-ok, both-ok, ok-when, under-ok, ok-under}
+use Rattle.answers.proofs.Answers.{first-ok, second-ok, both-ok, ok-when, under-ok, ok-under}
 use Rattle.sff_format.proofs.Keeps.{none-declared}
 use Rattle.sff_format.proofs.Given.{or-left, or-right}
-use Rattle.sff_format.proofs.Refusals.{Numbered, zero-accepted, then-numbered, when-numbered, file-numbered}
+use Rattle.answers.proofs.Numbered.{Numbered, zero-accepted, then-numbered, when-numbered}
+use Rattle.sff_format.proofs.Refusals.{file-numbered}
 use Rattle.sff_correction.specs.Record.{position, oldLength, newLength, newQualityLeft, newQualityRight, newAdapterLeft, newAdapterRight, oldName, newName, isClips, isRename, nameFieldTest, unusedTest, newClipsTest, newNameTest, recordTest}
 use Rattle.sff_correction.specs.Edit.{target, edited}
 use Rattle.sff_correction.specs.Reasons.{clipsAbove, bears, reasons}

@@ -13,9 +13,9 @@ use Rattle.octets.specs.Scans.{run, Every, fails, isNameByte, isZero}
 use Rattle.octets.proofs.Lists.{part-suc, length-part}
 use Rattle.octets.proofs.Every.{none-fails}
 use Rattle.octets.proofs.Stands.{number-small}
-use Rattle.sff_format.specs.declared.Answer.the-variants.{Accepted}
-use Rattle.sff_format.specs.Answer.{when, _then_}
-use Rattle.sff_format.proofs.Answers.{first-ok, second-ok, when-ok, same-ok}
+use Rattle.answers.specs.declared.Answer.the-variants.{Accepted}
+use Rattle.answers.specs.Answer.{when, _then_}
+use Rattle.answers.proofs.Answers.{first-ok, second-ok, when-ok, same-ok}
 use Rattle.sff_format.proofs.Given.{or-left, or-right}
 use Rattle.sff_correction.specs.Record.{kind, oldLength, newLength, position, newQualityLeft, newQualityRight, newAdapterLeft, newAdapterRight, oldName, newName, isRename, nameFieldTest, unusedTest, newClipsTest, newNameTest, recordTest}
 

@@ -16,8 +16,8 @@ use Rattle.octets.proofs.AllBytes.{bytes-both, bytes-fields, bytes-filled, byte
 use Rattle.octets.proofs.Digits.{number-one}
 use Rattle.octets.proofs.Every.{none-fails, every-passes}
 use Rattle.octets.proofs.Stands.{Numbers, Fit, width, read-stands, stands-both, stands-left, stands-right, stands-self, length-filled, filled-stands, stands-filled, length-fields, fields-stand, stand-fields}
-use Rattle.sff_format.specs.declared.Answer.the-variants.{Accepted}
-use Rattle.sff_format.proofs.Answers.{both-ok, ok-when, ok-same}
+use Rattle.answers.specs.declared.Answer.the-variants.{Accepted}
+use Rattle.answers.proofs.Answers.{both-ok, ok-when, ok-same}
 use Rattle.sff_format.proofs.Written.{name-small}
 use Rattle.sff_correction.specs.Record.{kind, oldLength, newLength, position, newQualityLeft, newQualityRight, newAdapterLeft, newAdapterRight, oldName, newName, isClips, isRename, nameFieldTest, unusedTest, newClipsTest, newNameTest, recordTest}
 use Rattle.sff_correction.specs.RecordLayout.{Change, clips, rename, remove, Correction, kindOf, nameOf, clipFields, clipsOf, recordFields, layoutRecord, ValidName, ValidChange, ValidCorrection}

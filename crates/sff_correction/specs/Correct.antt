@@ -4,9 +4,9 @@ use mathlib.Core.List.{List}
 use lib.ListN.{length, take}
 use lib.Dec.{ltb}
 use Rattle.octets.specs.Parts.{settled}
-use Rattle.sff_format.specs.declared.Answer.{Answer}
+use Rattle.answers.specs.declared.Answer.{Answer}
 use Rattle.sff_format.specs.declared.Outcome.{Outcome}
-use Rattle.sff_format.specs.Answer.{when, acceptedOr, _then_}
+use Rattle.answers.specs.Answer.{when, acceptedOr, _then_}
 use Rattle.sff_format.specs.Model.{layout}
 use Rattle.sff_format.specs.FileTest.{fileTest}
 use Rattle.sff_format.specs.Parse.{parse}

@@ -5,9 +5,9 @@ use mathlib.Core.List.{List}
 use lib.ListN.{length}
 use lib.Dec.{ltb}
 use Rattle.octets.specs.Parts.{settled}
-use Rattle.sff_format.specs.declared.Answer.{Answer}
-use Rattle.sff_format.specs.declared.Answer.the-variants.{Accepted}
-use Rattle.sff_format.specs.Answer.{acceptedOr, _then_}
+use Rattle.answers.specs.declared.Answer.{Answer}
+use Rattle.answers.specs.declared.Answer.the-variants.{Accepted}
+use Rattle.answers.specs.Answer.{acceptedOr, _then_}
 use Rattle.sff_format.specs.Model.{File, layout}
 use Rattle.sff_correction.specs.Record.{recordTest}
 use Rattle.sff_correction.specs.Edit.{edited}

@@ -5,9 +5,9 @@ use mathlib.Core.List.{List}
 use lib.ListN.{length}
 use lib.Dec.{eqb}
 use Rattle.octets.specs.Parts.{part}
-use Rattle.sff_format.specs.declared.Answer.{Answer}
-use Rattle.sff_format.specs.declared.Answer.the-variants.{Accepted, Refused}
-use Rattle.sff_format.specs.Answer.{acceptedOr}
+use Rattle.answers.specs.declared.Answer.{Answer}
+use Rattle.answers.specs.declared.Answer.the-variants.{Accepted, Refused}
+use Rattle.answers.specs.Answer.{acceptedOr}
 use Rattle.sff_correction.specs.declared.ListOutcome.{ListOutcome}
 use Rattle.sff_correction.specs.Correct.{correctTest, correctOutcome, correctBuffer}
 

@@ -1,5 +1,5 @@
 // The type that the definitions and the code share. There is no function here.
-use sff_format::Answer;
+use answers::Answer;
 
 // What a list run answers: how many records were carried out, and the answer and the file's length that the last record tried was given.
 pub struct ListOutcome {

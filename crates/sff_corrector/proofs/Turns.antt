@@ -9,10 +9,10 @@ use lib.ListN.{length, take}
 use Rattle.octets.specs.Numbers.{Bytes}
 use Rattle.octets.proofs.AllBytes.{bytes-take}
 use Rattle.octets.proofs.Stands.{number-small}
-use Rattle.sff_format.specs.declared.Answer.{Answer}
-use Rattle.sff_format.specs.declared.Answer.the-variants.{Accepted, Refused}
+use Rattle.answers.specs.declared.Answer.{Answer}
+use Rattle.answers.specs.declared.Answer.the-variants.{Accepted, Refused}
 use Rattle.sff_format.specs.declared.Outcome.{Outcome}
-use Rattle.sff_format.specs.Answer.{when, _then_}
+use Rattle.answers.specs.Answer.{when, _then_}
 use Rattle.sff_format.specs.HeaderTest.{readCount}
 use Rattle.sff_format.specs.FileTest.{fileTest}
 use Rattle.sff_format.specs.Parse.{parse}

@@ -12,7 +12,7 @@ use Rattle.octets.specs.Numbers.{Bytes, number, bytesOf}
 use Rattle.octets.proofs.Lists.{put-next}
 use Rattle.octets.proofs.Digits.{length-bytesOf}
 use Rattle.octets.proofs.Stands.{number-take}
-use Rattle.sff_format.specs.declared.Answer.the-variants.{Accepted}
+use Rattle.answers.specs.declared.Answer.the-variants.{Accepted}
 use Rattle.sff_format.specs.Model.{noIndex, layoutRead}
 use Rattle.sff_format.specs.HeaderTest.{readCount, flows, flowCharacters}
 use Rattle.sff_format.specs.ReadTest.{sectionLength, readEnd}

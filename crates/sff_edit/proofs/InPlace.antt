@@ -8,12 +8,12 @@ use native.Mathlib.Omega.{arith}
 use lib.ListN.{length, take, drop, length-append, length-take, length-drop}
 use lib.Seq.{length-take-le, take-at, drop-at}
 use Rattle.octets.specs.Parts.{part, putAt, filled, settled, spliced, up8}
-use Rattle.octets.specs.Numbers.{Bytes, number, bytesOf, fields, words, wordsAt}
+use Rattle.octets.specs.Numbers.{Bytes, number, bytesOf, fields, words, wordsAt, unitBytes, unitsAt}
 use Rattle.octets.proofs.Lists.{length-put, put-over, length-part}
 use Rattle.octets.proofs.Digits.{length-bytesOf}
-use Rattle.octets.proofs.Stands.{stands-read, words-stand, length-words, length-fields, length-filled, field-filled, number-take}
+use Rattle.octets.proofs.Stands.{stands-read, units-stand, length-units, length-fields, length-filled, field-filled, number-take}
 use Rattle.octets.proofs.Settled.{settled-front, settled-put, splice-settled}
-use Rattle.sff_format.specs.declared.Answer.the-variants.{Accepted}
+use Rattle.answers.specs.declared.Answer.the-variants.{Accepted}
 use Rattle.sff_format.specs.Model.{Read, noIndex, readFields, layoutReadHeader, layoutReadData, layoutRead, layout}
 use Rattle.sff_format.specs.HeaderTest.{readCount, flows, flowCharacters}
 use Rattle.sff_format.specs.ReadTest.{sectionLength, nameLength, readEnd}
@@ -50,7 +50,7 @@ padding-is : (n : ℕ) → up8 (16 + n) - (16 + n) ≡ nameRoom n - n
 padding-is n = omega arith
 
 header-split : (x : Read) → layoutReadHeader x ≡ lengths x ++ (bases x ++ (clips x ++ name-padded x))
-unfolding layoutReadHeader readFields filled fields words lengths bases clips name-padded
+unfolding layoutReadHeader readFields filled fields unitBytes lengths bases clips name-padded
 header-split x =
     let l : length (fields (readFields x) ++ x .name) ≡ 16 + length (x .name) = rw (length-append, length-fields) in
     rw (l, padding-is (length (x .name))) (simp (append-assoc, append-nil))
@@ -98,11 +98,11 @@ module _ (buffer : List ℕ) (len : ℕ) (r : List ℕ) (h : len ≤ length buff
 
   module _ (k : isClips r ≡ true) (z : Bytes r) where
     new-clips : part 8 8 r ≡ clips (clipped r read)
-    unfolding clips wordsAt
+    unfolding clips unitsAt
     new-clips =
         let n = record-96 r q in
-        let l : length (words (wordsAt 4 8 r)) ≡ 8 = length-words (wordsAt 4 8 r) in
-        stands-read 8 8 (words (wordsAt 4 8 r)) r l (words-stand r z 4 8 (omega arith))
+        let l : length (words (wordsAt 4 8 r)) ≡ 8 = length-units 2 (wordsAt 4 8 r) in
+        stands-read 8 8 (words (wordsAt 4 8 r)) r l (units-stand 2 r z 4 8 (omega arith))
 
     afresh-clips : corrected buffer len r ≡ front ++ (layoutRead (clipped r read) ++ back)
     afresh-clips =
@@ -120,7 +120,7 @@ module _ (buffer : List ℕ) (len : ℕ) (r : List ℕ) (h : len ≤ length buff
         let w : List ℕ = name-padded read ++ (layoutReadData read ++ back) in
         let n = record-96 r q in
         let l : length u ≡ p + 8 = simp (length-append, length-bytesOf, front-length) (omega arith) in
-        let m : length (part 8 8 r) ≡ length (clips read) = rw (length-part 8 8 r (omega arith), length-words) in
+        let m : length (part 8 8 r) ≡ length (clips read) = rw (length-part 8 8 r (omega arith), length-units) in
         let s : file ≡ u ++ (clips read ++ w) = pieces ∙ simp append-assoc in
         let t : u ++ (part 8 8 r ++ w) ≡ corrected buffer len r = sym (afresh-clips ∙ rw clipped-pieces (simp append-assoc)) in
         ap (putAt (p + 8) (part 8 8 r)) s ∙ (rw l at (put-over u (part 8 8 r) (clips read) w m)) ∙ t
@@ -207,7 +207,7 @@ module _ (buffer : List ℕ) (len : ℕ) (r : List ℕ) (h : len ≤ length buff
 
       ahead-length : length ahead ≡ p + 16
       unfolding lengths bases clips
-      ahead-length = simp (length-append, length-bytesOf, length-words, front-length) (omega arith)
+      ahead-length = simp (length-append, length-bytesOf, length-units, front-length) (omega arith)
 
       padded-length : length (name-padded read) ≡ nameRoom (length (read .name))
       unfolding name-padded

@@ -9,13 +9,13 @@ use lib.ListN.{length}
 use lib.Dec.{ltb, eqb}
 use borrow.Author.Tests.{eqb-true, eqb-false, lt-ltb, le-ltb}
 use Rattle.octets.specs.Numbers.{Bytes}
-use Rattle.sff_format.specs.declared.Answer.the-variants.{Accepted}
+use Rattle.answers.specs.declared.Answer.the-variants.{Accepted}
 use Rattle.sff_format.specs.Rules.{declared, badIndexLength, badIndex, indexSize}
 use Rattle.sff_format.specs.HeaderTest.{indexOffset, indexLength, readCount, headerLength, flows, headerTest}
 use Rattle.sff_format.specs.ReadTest.{readEnd}
 use Rattle.sff_format.specs.FileTest.{indexHere, pastIndex, nowPassed, boundaryTest, fileTest}
 use Rattle.sff_format.specs.Places.{placeFrom, readPlace}
-use Rattle.sff_format.proofs.Answers.{second-ok}
+use Rattle.answers.proofs.Answers.{second-ok}
 use Rattle.sff_format.proofs.Sizes.{size-least}
 use Rattle.sff_format.proofs.HeaderLaws.{header-fits, index-good}
 use Rattle.sff_format.proofs.Boundaries.{Done, here-done, here-not, here-is, accepted-read, no-past, no-pass, past, pass, place-here, place-read, place-index, boundary-index}

@@ -4,7 +4,7 @@ use mathlib.Core.Path.{_≡_}
 use mathlib.Core.Bool.{Bool}
 use mathlib.Core.List.{List}
 use lib.ListN.{length}
-use Rattle.sff_format.specs.declared.Answer.the-variants.{Accepted}
+use Rattle.answers.specs.declared.Answer.the-variants.{Accepted}
 use Rattle.sff_format.specs.HeaderTest.{flows}
 use Rattle.sff_format.specs.ReadTest.{readEnd}
 use Rattle.sff_format.specs.FileTest.{pastIndex, nowPassed, boundaryTest}

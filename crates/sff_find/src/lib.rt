@@ -4,8 +4,8 @@ ghost use Rattle.sff_format.specs.Position.{positionTest};
 
 pub mod inner;
 
+use answers::Answer;
 use sff::file_test;
-use sff_format::Answer;
 use sff_header::inner::header_fields;
 
 // The file's own refusal, then 21 where it has no read at the position.

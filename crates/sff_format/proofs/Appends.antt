@@ -11,15 +11,15 @@ use Rattle.octets.specs.Numbers.{bytesOf, Bytes}
 use Rattle.octets.specs.Scans.{Every, isFlowCharacter}
 use Rattle.octets.proofs.Lists.{length-put, put-next, put-front}
 use Rattle.octets.proofs.Digits.{length-bytesOf}
-use Rattle.sff_format.specs.declared.Answer.the-variants.{Accepted}
+use Rattle.answers.specs.declared.Answer.the-variants.{Accepted}
 use Rattle.sff_format.specs.Rules.{declared, badIndex}
-use Rattle.sff_format.specs.Answer.{acceptedOr}
+use Rattle.answers.specs.Answer.{acceptedOr}
 use Rattle.sff_format.specs.Model.{Read, File, noIndex, layoutRead, layout, withReads}
 use Rattle.sff_format.specs.Valid.{ValidReads, Valid}
 use Rattle.sff_format.specs.HeaderTest.{indexOffset, indexLength, readCount, flowCharacters, keyCharacters}
 use Rattle.sff_format.specs.FileTest.{fileTest}
 use Rattle.sff_format.specs.Writing.{newFile, givenTest, openTest, appendTest, appendOutcome, appendBuffer, Lent}
-use Rattle.sff_format.proofs.Answers.{first-ok, second-ok, both-ok, when-ok, ok-when, under-ok, ok-under}
+use Rattle.answers.proofs.Answers.{first-ok, second-ok, both-ok, when-ok, ok-when, under-ok, ok-under}
 use Rattle.sff_format.proofs.Sizes.{length-header}
 use Rattle.sff_format.proofs.Appended.{layout-plain, appended}
 use Rattle.sff_format.proofs.Given.{given-valid}

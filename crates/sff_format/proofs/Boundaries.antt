@@ -6,13 +6,13 @@ use mathlib.Core.List.{List, [], _∷_}
 use native.Mathlib.Omega.{arith}
 use lib.Dec.{eqb}
 use borrow.Author.Tests.{eqb-true, eq-eqb, ne-eqb}
-use Rattle.sff_format.specs.declared.Answer.the-variants.{Accepted}
-use Rattle.sff_format.specs.Answer.{_then_}
+use Rattle.answers.specs.declared.Answer.the-variants.{Accepted}
+use Rattle.answers.specs.Answer.{_then_}
 use Rattle.sff_format.specs.Rules.{declared, indexSize}
 use Rattle.sff_format.specs.HeaderTest.{indexOffset, indexLength, flows, flowCharacters}
 use Rattle.sff_format.specs.ReadTest.{readTest, readEnd}
 use Rattle.sff_format.specs.FileTest.{indexDue, indexHere, passTest, indexTest, pastIndex, nowPassed, endTest, boundaryTest}
-use Rattle.sff_format.proofs.Answers.{first-ok, second-ok}
+use Rattle.answers.proofs.Answers.{first-ok, second-ok}
 use Rattle.sff_format.specs.Parse.{parseRead, parseReads}
 use Rattle.sff_format.specs.Places.{placeFrom}
 

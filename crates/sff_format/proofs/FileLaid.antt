@@ -12,8 +12,8 @@ use borrow.Author.Tests.{eqb-true, eqb-false}
 use Rattle.octets.specs.Parts.{part, insertAt, Stands}
 use Rattle.octets.specs.Numbers.{Bytes}
 use Rattle.octets.proofs.AllBytes.{bytes-part}
-use Rattle.sff_format.specs.declared.Answer.the-variants.{Accepted}
-use Rattle.sff_format.specs.Answer.{_then_}
+use Rattle.answers.specs.declared.Answer.the-variants.{Accepted}
+use Rattle.answers.specs.Answer.{_then_}
 use Rattle.sff_format.specs.Model.{Read, noIndex, layoutRead, layoutReads, layoutHeader, layoutIndex, layout}
 use Rattle.sff_format.specs.Rules.{declared, indexSize}
 use Rattle.sff_format.specs.HeaderTest.{indexOffset, indexLength, readCount, headerLength, keyLength, flows, flowCharacters, headerTest}
@@ -21,7 +21,7 @@ use Rattle.sff_format.specs.ReadTest.{readTest, readEnd}
 use Rattle.sff_format.specs.FileTest.{indexHere, passTest, endTest, boundaryTest, fileTest}
 use Rattle.sff_format.specs.Parse.{parseRead, parseReads, parse}
 use Rattle.sff_format.specs.Valid.{ValidRead, ValidReads, Valid}
-use Rattle.sff_format.proofs.Answers.{first-ok, second-ok, when-ok, under-ok}
+use Rattle.answers.proofs.Answers.{first-ok, second-ok, when-ok, under-ok}
 use Rattle.octets.proofs.Stands.{number-small, stands-fits}
 use Rattle.sff_format.proofs.Sizes.{length-header, layout-none}
 use Rattle.sff_format.proofs.Indexes.{indexOf, pass-fits, index-length, index-laid, index-taken}

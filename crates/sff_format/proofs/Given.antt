@@ -10,12 +10,13 @@ use borrow.Author.Tests.{not-false, ltb-false, le-ltb, eqb-true, eq-eqb}
 use Rattle.octets.specs.Parts.{up8}
 use Rattle.octets.specs.Scans.{isNameByte}
 use Rattle.octets.proofs.Every.{none-fails, every-passes}
-use Rattle.sff_format.specs.declared.Answer.the-variants.{Accepted}
+use Rattle.answers.specs.declared.Answer.the-variants.{Accepted}
 use Rattle.sff_format.specs.Model.{Read}
 use Rattle.sff_format.specs.Valid.{ValidRead}
 use Rattle.sff_format.specs.ReadTest.{clipTest}
 use Rattle.sff_format.specs.Writing.{badCounts, givenTest, Lent}
-use Rattle.sff_format.proofs.Answers.{first-ok, second-ok, both-ok, when-ok, ok-when, under-ok, ok-under, own-ok, ok-own, walk-ok, calls-ok, ok-bases}
+use Rattle.answers.proofs.Answers.{first-ok, second-ok, both-ok, when-ok, ok-when, under-ok, ok-under, own-ok, ok-own}
+use Rattle.sff_format.proofs.Bases.{walk-ok, calls-ok, ok-bases}
 
 pub or-left : (s t : Bool) → (s || t) ≡ false → s ≡ false
 or-left true t e = e

@@ -9,12 +9,12 @@ use Rattle.octets.specs.Parts.{part, up8, Stands}
 use Rattle.octets.specs.Numbers.{Bytes, number, fields}
 use Rattle.octets.specs.Scans.{isFlowCharacter, isZero, Every}
 use Rattle.octets.proofs.Lists.{length-part}
-use Rattle.sff_format.specs.declared.Answer.the-variants.{Accepted}
+use Rattle.answers.specs.declared.Answer.the-variants.{Accepted}
 use Rattle.sff_format.specs.Model.{File, headerFields, layoutHeader}
 use Rattle.sff_format.specs.Rules.{badIndex}
 use Rattle.sff_format.specs.HeaderTest.{indexOffset, indexLength, readCount, headerLength, keyLength, flows, charactersEnd, flowCharacters, fixedTest, charactersTest, headerTest}
 use Rattle.sff_format.specs.Valid.{Valid}
-use Rattle.sff_format.proofs.Answers.{first-ok, second-ok, both-ok, when-ok, ok-when, under-ok, ok-under, same-ok, ok-same, scan-ok, ok-scan}
+use Rattle.answers.proofs.Answers.{first-ok, second-ok, both-ok, when-ok, ok-when, under-ok, ok-under, same-ok, ok-same, scan-ok, ok-scan}
 use Rattle.sff_format.proofs.Sizes.{length-header}
 use Rattle.octets.proofs.Stands.{Numbers, part-two, read-stands, stands-read, stands-both, stands-left, stands-right, stands-fits, filled-stands, stands-filled, length-fields, fields-stand, stand-fields}
 

@@ -8,7 +8,7 @@ use native.Mathlib.Omega.{arith}
 use lib.ListN.{length, take}
 use Rattle.octets.specs.Numbers.{Bytes}
 use Rattle.octets.proofs.AllBytes.{bytes-take}
-use Rattle.sff_format.specs.declared.Answer.the-variants.{Accepted}
+use Rattle.answers.specs.declared.Answer.the-variants.{Accepted}
 use Rattle.sff_format.specs.Rules.{declared}
 use Rattle.sff_format.specs.Model.{Read, File, layoutRead, layout}
 use Rattle.sff_format.specs.Valid.{ValidRead, Valid}

@@ -6,12 +6,12 @@ use native.Mathlib.Omega.{arith}
 use lib.ListN.{length}
 use Rattle.octets.specs.Parts.{part, filled, Stands}
 use Rattle.octets.proofs.Lists.{length-part}
-use Rattle.sff_format.specs.declared.Answer.the-variants.{Accepted}
+use Rattle.answers.specs.declared.Answer.the-variants.{Accepted}
 use Rattle.sff_format.specs.Model.{Index, layoutIndex}
 use Rattle.sff_format.specs.Rules.{indexSize}
 use Rattle.sff_format.specs.HeaderTest.{indexOffset, indexLength}
 use Rattle.sff_format.specs.FileTest.{passTest}
-use Rattle.sff_format.proofs.Answers.{under-ok, ok-under}
+use Rattle.answers.proofs.Answers.{under-ok, ok-under}
 use Rattle.octets.proofs.Stands.{stands-fits}
 use Rattle.sff_format.proofs.Sizes.{size-least, length-index}
 

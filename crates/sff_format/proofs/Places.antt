@@ -14,8 +14,8 @@ use Rattle.octets.specs.Parts.{putAt}
 use Rattle.octets.specs.Numbers.{Bytes, bytesOf}
 use Rattle.octets.proofs.Lists.{length-part}
 use Rattle.octets.proofs.Inserts.{drop-rest}
-use Rattle.sff_format.specs.declared.Answer.the-variants.{Accepted}
-use Rattle.sff_format.specs.Answer.{_then_}
+use Rattle.answers.specs.declared.Answer.the-variants.{Accepted}
+use Rattle.answers.specs.Answer.{_then_}
 use Rattle.sff_format.specs.Model.{Read, noIndex, layoutRead, layoutReads, layoutIndex, layout, withReads}
 use Rattle.sff_format.specs.Rules.{declared, indexSize}
 use Rattle.sff_format.specs.HeaderTest.{indexOffset, indexLength, readCount, headerLength, flows, flowCharacters, headerTest}
@@ -23,7 +23,7 @@ use Rattle.sff_format.specs.ReadTest.{readTest, readEnd}
 use Rattle.sff_format.specs.FileTest.{indexHere, passTest, boundaryTest, fileTest}
 use Rattle.sff_format.specs.Parse.{parseRead, parseReads, parse}
 use Rattle.sff_format.specs.Places.{noRead, readAt, replaced, place, placeFrom, readPlace}
-use Rattle.sff_format.proofs.Answers.{first-ok, second-ok}
+use Rattle.answers.proofs.Answers.{first-ok, second-ok}
 use Rattle.sff_format.proofs.Sizes.{size-none}
 use Rattle.sff_format.proofs.HeaderLaws.{header-fits}
 use Rattle.sff_format.proofs.Boundaries.{Done, undeclared, here-done, here-not, here-is, boundary-read, boundary-index, parse-read, parse-index, place-here, place-read, place-index}

@@ -8,9 +8,9 @@ use lib.ListN.{length}
 use borrow.Author.Tests.{ltb-true, lt-ltb, le-ltb, eqb-false, eq-eqb, ne-eqb, not-false}
 use Rattle.octets.specs.Numbers.{Bytes, wordsAt}
 use Rattle.octets.proofs.Stands.{number-small}
-use Rattle.sff_format.specs.declared.Answer.{Answer}
-use Rattle.sff_format.specs.declared.Answer.the-variants.{Accepted, Refused}
-use Rattle.sff_format.specs.Answer.{when, _then_, acceptedOr}
+use Rattle.answers.specs.declared.Answer.{Answer}
+use Rattle.answers.specs.declared.Answer.the-variants.{Accepted, Refused}
+use Rattle.answers.specs.Answer.{when, _then_, acceptedOr}
 use Rattle.sff_format.specs.HeaderTest.{readCount, flows, flowCharacters}
 use Rattle.sff_format.specs.ReadTest.{readTest}
 use Rattle.sff_format.specs.FileTest.{boundaryTest, fileTest}
@@ -19,7 +19,7 @@ use Rattle.sff_format.specs.Places.{readAt, placeFrom, readPlace}
 use Rattle.sff_format.specs.Insert.{insertFirst, insertLast, insertOf}
 use Rattle.sff_format.specs.View.{viewAt, viewFirst, viewLast, bytesIn, insertIn}
 use Rattle.sff_format.specs.Position.{positionTest, signalTest, viewOf, insertStretch, fileInsert, fileFirst, fileLast}
-use Rattle.sff_format.proofs.Answers.{first-ok, second-ok, when-ok}
+use Rattle.answers.proofs.Answers.{first-ok, second-ok, when-ok}
 use Rattle.sff_format.proofs.HeaderLaws.{fits-31, characters-length}
 use Rattle.sff_format.proofs.ReadLaid.{data-fits}
 use Rattle.sff_format.proofs.Boundaries.{accepted-read}

@@ -10,14 +10,15 @@ use Rattle.octets.specs.Numbers.{Bytes, number, fields, words, wordsAt}
 use Rattle.octets.specs.Scans.{isZero, Every, isNameByte}
 use Rattle.octets.proofs.Lists.{length-part}
 use Rattle.octets.proofs.AllBytes.{bytes-part}
-use Rattle.sff_format.specs.declared.Answer.the-variants.{Accepted}
+use Rattle.answers.specs.declared.Answer.the-variants.{Accepted}
 use Rattle.sff_format.specs.Model.{Read, readFields, layoutReadHeader, layoutReadData, layoutRead}
 use Rattle.sff_format.specs.ReadTest.{sectionLength, nameLength, baseCount, qualityLeft, qualityRight, adapterLeft, adapterRight, nameTest, clipTest, basesTest, dataTest, readTest, readEnd}
 use Rattle.sff_format.specs.Parse.{parseRead}
 use Rattle.sff_format.specs.Valid.{ValidRead}
-use Rattle.sff_format.proofs.Answers.{first-ok, second-ok, under-ok, same-ok, scan-ok, shifted-ok, walk-ok, calls-ok}
+use Rattle.answers.proofs.Answers.{first-ok, second-ok, under-ok, same-ok, scan-ok, shifted-ok}
+use Rattle.sff_format.proofs.Bases.{walk-ok, calls-ok}
 use Rattle.sff_format.proofs.Sizes.{length-head, length-data}
-use Rattle.octets.proofs.Stands.{read-stands, stands-both, filled-stands, length-fields, fields-stand, length-words, length-wordsAt, words-stand, words-small, number-small}
+use Rattle.octets.proofs.Stands.{read-stands, stands-both, filled-stands, length-fields, fields-stand, length-units, length-unitsAt, units-stand, units-small, number-small}
 
 module _ (characters b : List ℕ) (p : ℕ) where
   module _ (e : readTest characters b p ≡ Accepted) where
@@ -120,7 +121,7 @@ module _ (characters b : List ℕ) (p : ℕ) where
         let i : List ℕ = part (d + 2 * F) N b in
         let c : List ℕ = part (d + 2 * F + N) N b in
         let q : List ℕ = part (d + 2 * F + N + N) N b in
-        let lw : length w ≡ 2 * F = rw (length-words, length-wordsAt) in
+        let lw : length w ≡ 2 * F = rw (length-units, length-unitsAt) in
         let l2 : length (w ++ i) ≡ 2 * F + N = rw (length-append, lw, li) in
         let l3 : length (w ++ i ++ c) ≡ 2 * F + N + N = rw (length-append, l2, lb) in
         let l4 : length (w ++ i ++ c ++ q) ≡ 2 * F + 3 * N = rw (length-append, l3, lq) (omega arith) in
@@ -132,7 +133,7 @@ module _ (characters b : List ℕ) (p : ℕ) where
         stands-both d (d + 2 * F + N) (w ++ i) c b (rw l2 (omega arith))
         (
         stands-both d (d + 2 * F) w i b (rw lw)
-        (words-stand b y F d (omega arith))
+        (units-stand 2 b y F d (omega arith))
         (read-stands (d + 2 * F) N b (omega arith))
         )
         (read-stands (d + 2 * F + N) N b (omega arith))
@@ -154,7 +155,7 @@ module _ (characters b : List ℕ) (p : ℕ) where
         let li : length (part (d + 2 * F) N b) ≡ N = bases-length e (d + 2 * F) (omega arith) in
         let lb : length (part (d + 2 * F + N) N b) ≡ N = bases-length e (d + 2 * F + N) (omega arith) in
         let lq : length (part (d + 2 * F + N + N) N b) ≡ N = bases-length e (d + 2 * F + N + N) (omega arith) in
-        rw (length-append, length-head r, length-data r, ln, length-wordsAt, li, lb, lq, ← s) (omega arith)
+        rw (length-append, length-head r, length-data r, ln, length-unitsAt, li, lb, lq, ← s) (omega arith)
 
     pub read-laid : Stands p (layoutRead (parseRead (length characters) b p)) b
     unfolding layoutRead parseRead
@@ -190,8 +191,8 @@ module _ (characters b : List ℕ) (p : ℕ) where
           quality-right-good = rw lb (under-ok _ _ _ _ (first-ok _ _ (second-ok _ _ (clip-ok e))));
           adapter-left-good = rw lb (under-ok _ _ _ _ (first-ok _ _ (second-ok _ _ (second-ok _ _ (clip-ok e)))));
           adapter-right-good = rw lb (under-ok _ _ _ _ (second-ok _ _ (second-ok _ _ (second-ok _ _ (clip-ok e)))));
-          values-count = length-wordsAt F d b;
-          values-fit = words-small b y F d (omega arith);
+          values-count = length-unitsAt 2 F d b;
+          values-fit = units-small 2 b y F d (omega arith);
           increments-count = rw (li, lb);
           qualities-count = rw (lq, lb);
           walk-good = walk-ok characters _ _ (bases-ok e);

@@ -7,16 +7,17 @@ use native.Mathlib.Nat.{add-zero}
 use lib.ListN.{length, length-append}
 use Rattle.octets.specs.Parts.{part, up8, Stands}
 use Rattle.octets.specs.Scans.{isZero, Every, isNameByte}
-use Rattle.sff_format.specs.declared.Answer.the-variants.{Accepted}
+use Rattle.answers.specs.declared.Answer.the-variants.{Accepted}
 use Rattle.octets.specs.Numbers.{number, fields, words, wordsAt}
 use Rattle.sff_format.specs.Model.{Read, readFields, layoutReadHeader, layoutReadData, layoutRead}
 use Rattle.sff_format.specs.Rules.{leftLimit, rightLimit}
 use Rattle.sff_format.specs.ReadTest.{sectionLength, nameLength, baseCount, qualityLeft, qualityRight, adapterLeft, adapterRight, nameTest, clipTest, dataTest, readTest, readEnd}
 use Rattle.sff_format.specs.Parse.{parseRead}
 use Rattle.sff_format.specs.Valid.{ValidRead}
-use Rattle.sff_format.proofs.Answers.{both-ok, ok-under, ok-same, ok-scan, ok-shifted, ok-bases}
+use Rattle.answers.proofs.Answers.{both-ok, ok-under, ok-same, ok-scan, ok-shifted}
+use Rattle.sff_format.proofs.Bases.{ok-bases}
 use Rattle.sff_format.proofs.Sizes.{length-head, length-data}
-use Rattle.octets.proofs.Stands.{Numbers, stands-read, stands-left, stands-right, stands-fits, stands-filled, length-fields, stand-fields, length-words, stand-words}
+use Rattle.octets.proofs.Stands.{Numbers, stands-read, stands-left, stands-right, stands-fits, stands-filled, length-fields, stand-fields, length-units, stand-units}
 
 module _ (characters b : List ℕ) (p : ℕ) (r : Read) (v : ValidRead characters r) (h : p ≤ length b) (s : Stands p (layoutRead r) b) where
   head-stands : Stands p (layoutReadHeader r) b
@@ -90,7 +91,7 @@ module _ (characters b : List ℕ) (p : ℕ) (r : Read) (v : ValidRead character
         let i = v .increments-count in
         let q = v .qualities-count in
         let xs : List ℕ = words (r .values) ++ r .increments ++ r .bases ++ r .qualities in
-        let l : length xs ≡ 2 * length characters + 3 * length (r .bases) = simp (length-append, length-words) (omega arith) in
+        let l : length xs ≡ 2 * length characters + 3 * length (r .bases) = simp (length-append, length-units) (omega arith) in
         stands-filled d (d + (2 * length characters + 3 * length (r .bases))) (up8 (length xs)) (up8 (2 * length characters + 3 * length (r .bases)) - (2 * length characters + 3 * length (r .bases))) xs b
         (rw l) (rw l) (omega arith) (rw e data-stands)
 
@@ -100,27 +101,27 @@ module _ (characters b : List ℕ) (p : ℕ) (r : Read) (v : ValidRead character
         let t = stands-left d (words (r .values) ++ r .increments ++ r .bases) (r .qualities) b (omega arith) (data-pieces .0) in
         let u = stands-left d (words (r .values) ++ r .increments) (r .bases) b (omega arith) t in
         let w = stands-left d (words (r .values)) (r .increments) b (omega arith) u in
-        rw (v .values-count) at (stand-words b (r .values) d (omega arith) (v .values-fit) w)
+        rw (v .values-count) at (stand-units 2 b (r .values) d (omega arith) (v .values-fit) w)
 
     increments-are : part (d + 2 * length characters) (length (r .bases)) b ≡ r .increments
     increments-are =
         let f = head-fits in
         let t = stands-left d (words (r .values) ++ r .increments ++ r .bases) (r .qualities) b (omega arith) (data-pieces .0) in
         let u = stands-left d (words (r .values) ++ r .increments) (r .bases) b (omega arith) t in
-        let l : d + 2 * length characters ≡ d + length (words (r .values)) = rw (length-words, v .values-count) in
+        let l : d + 2 * length characters ≡ d + length (words (r .values)) = rw (length-units, v .values-count) in
         stands-read (d + 2 * length characters) (length (r .bases)) (r .increments) b (v .increments-count) (stands-right d (d + 2 * length characters) (words (r .values)) (r .increments) b l (omega arith) u)
 
     bases-are : part (d + 2 * length characters + length (r .bases)) (length (r .bases)) b ≡ r .bases
     bases-are =
         let f = head-fits in
         let t = stands-left d (words (r .values) ++ r .increments ++ r .bases) (r .qualities) b (omega arith) (data-pieces .0) in
-        let l : d + 2 * length characters + length (r .bases) ≡ d + length (words (r .values) ++ r .increments) = rw (length-append, length-words, v .values-count, v .increments-count) (omega arith) in
+        let l : d + 2 * length characters + length (r .bases) ≡ d + length (words (r .values) ++ r .increments) = rw (length-append, length-units, v .values-count, v .increments-count) (omega arith) in
         stands-right d (d + 2 * length characters + length (r .bases)) (words (r .values) ++ r .increments) (r .bases) b l (omega arith) t
 
     qualities-are : part (d + 2 * length characters + length (r .bases) + length (r .bases)) (length (r .bases)) b ≡ r .qualities
     qualities-are =
         let f = head-fits in
-        let l : d + 2 * length characters + length (r .bases) + length (r .bases) ≡ d + length (words (r .values) ++ r .increments ++ r .bases) = rw (length-append, length-append, length-words, v .values-count, v .increments-count) (omega arith) in
+        let l : d + 2 * length characters + length (r .bases) + length (r .bases) ≡ d + length (words (r .values) ++ r .increments ++ r .bases) = rw (length-append, length-append, length-units, v .values-count, v .increments-count) (omega arith) in
         stands-read (d + 2 * length characters + length (r .bases) + length (r .bases)) (length (r .bases)) (r .qualities) b (v .qualities-count)
         (stands-right d (d + 2 * length characters + length (r .bases) + length (r .bases)) (words (r .values) ++ r .increments ++ r .bases) (r .qualities) b l (omega arith) (data-pieces .0))
 

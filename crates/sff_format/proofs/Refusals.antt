@@ -6,9 +6,10 @@ use mathlib.Core.List.{List, [], _∷_}
 use native.Mathlib.Omega.{arith}
 use lib.ListN.{length, take}
 use lib.Dec.{ltb}
-use Rattle.sff_format.specs.declared.Answer.{Answer}
-use Rattle.sff_format.specs.declared.Answer.the-variants.{Accepted, Refused}
-use Rattle.sff_format.specs.Answer.{numberOf, when, shifted, own, _then_, acceptedOr}
+use Rattle.answers.specs.declared.Answer.{Answer}
+use Rattle.answers.specs.declared.Answer.the-variants.{Accepted, Refused}
+use Rattle.answers.specs.Answer.{numberOf, when, shifted, own, _then_, acceptedOr}
+use Rattle.answers.proofs.Numbered.{Numbered, zero-accepted, then-numbered, when-numbered, shifted-numbered, own-numbered}
 use Rattle.sff_format.specs.HeaderTest.{fixedTest, charactersTest, headerTest, readCount, headerLength, flowCharacters}
 use Rattle.sff_format.specs.ReadTest.{nameTest, clipTest, basesTest, dataTest, readTest}
 use Rattle.sff_format.specs.FileTest.{indexHere, passTest, indexTest, endTest, boundaryTest, fileTest}
@@ -16,30 +17,6 @@ use Rattle.sff_format.specs.Model.{Read, File}
 use Rattle.sff_format.specs.Position.{positionTest, signalTest}
 use Rattle.sff_format.specs.Writing.{newTest, newOutcome, givenTest, openTest, appendTest, appendOutcome, Left, newIn, appendTo, appendEach, writeEach}
 use Rattle.sff_format.specs.Step.{State, boundary, indexPassed, readOrNone, stepTest}
-
--- accepted, or refused with a number that is not 0
-abbrev pub Numbered : Answer → Type 0
-Numbered Accepted = Unit {0}
-Numbered (Refused n p) = ltb 0 n ≡ true
-
-pub zero-accepted : (a : Answer) → Numbered a → numberOf a ≡ 0 → a ≡ Accepted
-zero-accepted Accepted h e = refl
-zero-accepted (Refused n p) h e = let f : false ≡ true = rw e at h in let z : _≡_ {A = ℕ} 0 1 = cc in absurd (omega arith)
-
-pub then-numbered : (a b : Answer) → Numbered a → Numbered b → Numbered (a then b)
-unfolding _then_
-then-numbered Accepted b h k = k
-then-numbered (Refused n p) b h k = h
-
-pub when-numbered : (t : Bool) (n p : ℕ) → ltb 0 n ≡ true → Numbered (when t n p)
-unfolding when
-when-numbered true n p h = h
-when-numbered false n p h = tt
-
-shifted-numbered : (from : ℕ) (a : Answer) → Numbered a → Numbered (shifted from a)
-unfolding shifted
-shifted-numbered from Accepted h = tt
-shifted-numbered from (Refused n p) h = h
 
 -- the tests in their order
 header-numbered : (b : List ℕ) → Numbered (headerTest b)
@@ -141,11 +118,6 @@ pub step-zero : (b : List ℕ) (s : State) → numberOf (stepTest b s) ≡ 0 →
 step-zero b s e = zero-accepted (stepTest b s) (step-numbered b s) e
 
 -- nor of a position's, a summary's or a writer's
-own-numbered : (a : Answer) → Numbered a → Numbered (own a)
-unfolding own
-own-numbered Accepted h = tt
-own-numbered (Refused n p) h = h
-
 position-numbered : (b : List ℕ) (i : ℕ) → Numbered (positionTest b i)
 unfolding positionTest
 position-numbered b i = then-numbered _ _ (file-numbered b) (when-numbered _ 21 _ refl)

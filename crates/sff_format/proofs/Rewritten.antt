@@ -7,7 +7,7 @@ use lib.ListN.{length, take}
 use Rattle.octets.specs.Parts.{putAt}
 use Rattle.octets.specs.Numbers.{Bytes}
 use Rattle.octets.proofs.Lists.{take-front}
-use Rattle.sff_format.specs.declared.Answer.the-variants.{Accepted}
+use Rattle.answers.specs.declared.Answer.the-variants.{Accepted}
 use Rattle.sff_format.specs.Rules.{declared}
 use Rattle.sff_format.specs.Model.{File, noIndex, layout}
 use Rattle.sff_format.specs.Valid.{Valid}

@@ -8,14 +8,14 @@ use native.Mathlib.Nat.{zero-add, suc-add}
 use native.Mathlib.Numerals.{add-one}
 use lib.ListN.{length, take, drop}
 use lib.Seq.{take-at, drop-at, drop-drop}
-use Rattle.sff_format.specs.declared.Answer.the-variants.{Accepted}
+use Rattle.answers.specs.declared.Answer.the-variants.{Accepted}
 use Rattle.sff_format.specs.Rules.{declared}
 use Rattle.sff_format.specs.HeaderTest.{indexOffset, indexLength, readCount, headerLength, flows}
 use Rattle.sff_format.specs.ReadTest.{readEnd}
 use Rattle.sff_format.specs.FileTest.{indexHere, boundaryTest, fileTest}
 use Rattle.sff_format.specs.Parse.{parseReads, parse}
 use Rattle.sff_format.specs.Places.{placeFrom, readPlace}
-use Rattle.sff_format.proofs.Answers.{second-ok}
+use Rattle.answers.proofs.Answers.{second-ok}
 use Rattle.sff_format.proofs.Boundaries.{Done, here-done, boundary-read, parse-none, parse-read, place-here, place-read}
 use Rattle.sff_format.proofs.FileLaid.{length-parsed, head-ok, sections-ok}
 use Rattle.sff_format.proofs.Steps.{read-fits}

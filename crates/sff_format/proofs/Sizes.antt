@@ -7,7 +7,7 @@ use lib.ListN.{length, length-append, length-replicate}
 use Rattle.octets.specs.Parts.{up8, filled}
 use Rattle.sff_format.specs.Model.{Read, Index, File, noIndex, layoutIndex, readFields, headerFields, layoutReadHeader, layoutReadData, layoutHeader}
 use Rattle.sff_format.specs.Rules.{indexSize}
-use Rattle.octets.proofs.Stands.{length-filled, length-fields, length-words}
+use Rattle.octets.proofs.Stands.{length-filled, length-fields, length-units}
 
 pub length-head : (r : Read) → length (layoutReadHeader r) ≡ up8 (16 + length (r .name))
 unfolding layoutReadHeader readFields filled
@@ -15,7 +15,7 @@ length-head r = simp (length-append, length-replicate, length-fields) (omega ari
 
 pub length-data : (r : Read) → length (layoutReadData r) ≡ up8 (2 * length (r .values) + length (r .increments) + length (r .bases) + length (r .qualities))
 unfolding layoutReadData filled
-length-data r = simp (length-append, length-replicate, length-words) (omega arith)
+length-data r = simp (length-append, length-replicate, length-units) (omega arith)
 
 pub length-header : (f : File) → length (layoutHeader f) ≡ up8 (31 + length (f .flow-characters) + length (f .key))
 unfolding layoutHeader headerFields filled

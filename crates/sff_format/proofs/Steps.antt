@@ -7,9 +7,9 @@ use native.Mathlib.Omega.{arith}
 use lib.ListN.{length}
 use borrow.Author.Tests.{lt-ltb, le-ltb}
 use Rattle.octets.specs.Numbers.{Bytes}
-use Rattle.sff_format.specs.declared.Answer.{Answer}
-use Rattle.sff_format.specs.declared.Answer.the-variants.{Accepted, Refused}
-use Rattle.sff_format.specs.Answer.{when, _then_}
+use Rattle.answers.specs.declared.Answer.{Answer}
+use Rattle.answers.specs.declared.Answer.the-variants.{Accepted, Refused}
+use Rattle.answers.specs.Answer.{when, _then_}
 use Rattle.sff_format.specs.Rules.{indexSize}
 use Rattle.sff_format.specs.HeaderTest.{indexLength, headerTest, headerLength, flows, flowCharacters, readCount}
 use Rattle.sff_format.specs.ReadTest.{readTest, readEnd}
@@ -17,7 +17,7 @@ use Rattle.sff_format.specs.FileTest.{indexHere, passTest, indexTest, pa
 use Rattle.sff_format.specs.Step.{State, found, stop, concluded, stepTest, readOrNone, moved, boundary, indexPassed, step, freshPlace, fresh, onStop, lastAnswer, onFound, viewsFound, readBack}
 use Rattle.sff_format.specs.View.{viewAt, viewRead}
 use Rattle.sff_format.specs.Parse.{parseRead, parseReads, parse}
-use Rattle.sff_format.proofs.Answers.{second-ok, under-ok, then-accepted, then-assoc, then-on}
+use Rattle.answers.proofs.Answers.{second-ok, under-ok, then-accepted, then-assoc, then-on}
 use Rattle.sff_format.proofs.HeaderLaws.{header-fits, characters-length}
 use Rattle.sff_format.proofs.Boundaries.{accepted-none, accepted-read}
 use Rattle.sff_format.proofs.FileLaid.{head-ok, sections-ok}

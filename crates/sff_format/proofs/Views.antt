@@ -7,8 +7,8 @@ use lib.ListN.{length}
 use Rattle.octets.specs.Parts.{part, wholePart}
 use Rattle.octets.specs.Numbers.{Bytes, words, wordsAt}
 use Rattle.octets.proofs.Lists.{whole-in}
-use Rattle.octets.proofs.Stands.{stands-read, stands-self, length-words, length-wordsAt, words-stand, stand-words}
-use Rattle.sff_format.specs.declared.Answer.the-variants.{Accepted}
+use Rattle.octets.proofs.Stands.{stands-read, stands-self, length-units, length-unitsAt, units-stand, stand-units}
+use Rattle.answers.specs.declared.Answer.the-variants.{Accepted}
 use Rattle.sff_format.specs.ReadTest.{sectionLength, nameLength, baseCount, readTest}
 use Rattle.sff_format.specs.Parse.{parseRead}
 use Rattle.sff_format.specs.View.{viewAt, bytesIn, viewRead}
@@ -44,8 +44,8 @@ module _ (characters b : List ℕ) (p : ℕ) (e : readTest characters b p ≡ Ac
       let F = length characters in
       let d = p + sectionLength b p in
       let f = data-fits characters b p e in
-      let l : length (words (wordsAt F d b)) ≡ 2 * F = rw (length-words, length-wordsAt) in
-      data-in d (2 * F) (omega arith) ∙ stands-read d (2 * F) (words (wordsAt F d b)) b l (words-stand b y F d (omega arith))
+      let l : length (words (wordsAt F d b)) ≡ 2 * F = rw (length-units, length-unitsAt) in
+      data-in d (2 * F) (omega arith) ∙ stands-read d (2 * F) (words (wordsAt F d b)) b l (units-stand 2 b y F d (omega arith))
 
   clips-viewed :
       let v = viewAt (length characters) b p in
@@ -58,8 +58,8 @@ module _ (characters b : List ℕ) (p : ℕ) (e : readTest characters b p ≡ Ac
   values-spelt : Bytes b → wordsAt (length (bytesIn b (viewAt (length characters) b p .values)) / 2) 0 (bytesIn b (viewAt (length characters) b p .values)) ≡ parseRead (length characters) b p .values
   values-spelt y =
       let vs : List ℕ = parseRead (length characters) b p .values in
-      let n : length (words vs) / 2 ≡ length vs = rw (length-words vs) (omega arith) in
-      rw (values-viewed y, n) (stand-words (words vs) vs 0 (omega arith) (read-valid characters b p y e .values-fit) (stands-self (words vs)))
+      let n : length (words vs) / 2 ≡ length vs = rw (length-units 2 vs) (omega arith) in
+      rw (values-viewed y, n) (stand-units 2 (words vs) vs 0 (omega arith) (read-valid characters b p y e .values-fit) (stands-self (words vs)))
 
   -- what is handed out of a read is the read
   pub read-viewed : Bytes b → viewRead b (viewAt (length characters) b p) ≡ parseRead (length characters) b p

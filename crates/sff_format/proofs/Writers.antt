@@ -10,16 +10,16 @@ use Rattle.octets.specs.Parts.{putAt, up8}
 use Rattle.octets.specs.Scans.{fails, isFlowCharacter}
 use Rattle.octets.proofs.Lists.{length-put, take-front}
 use Rattle.octets.proofs.Every.{none-fails, every-passes, every-left, every-right, every-both}
-use Rattle.sff_format.specs.declared.Answer.{Answer}
-use Rattle.sff_format.specs.declared.Answer.the-variants.{Accepted, Refused}
+use Rattle.answers.specs.declared.Answer.{Answer}
+use Rattle.answers.specs.declared.Answer.the-variants.{Accepted, Refused}
 use Rattle.sff_format.specs.Rules.{declared}
-use Rattle.sff_format.specs.Answer.{acceptedOr}
+use Rattle.answers.specs.Answer.{acceptedOr}
 use Rattle.sff_format.specs.Model.{Read, File, noIndex, layoutRead, layout}
 use Rattle.sff_format.specs.Valid.{Valid}
 use Rattle.sff_format.specs.HeaderTest.{indexOffset, indexLength, readCount, flowCharacters}
 use Rattle.sff_format.specs.FileTest.{fileTest}
 use Rattle.sff_format.specs.Writing.{newFile, newTest, newOutcome, newBuffer, givenTest, appendTest, appendOutcome, appendBuffer, Left, appendEach, writeEach, Lent, AllLent}
-use Rattle.sff_format.proofs.Answers.{first-ok, second-ok, both-ok, when-ok, ok-when, under-ok, ok-under, not-accepted}
+use Rattle.answers.proofs.Answers.{first-ok, second-ok, both-ok, when-ok, ok-when, under-ok, ok-under, not-accepted}
 use Rattle.sff_format.proofs.Sizes.{length-header}
 use Rattle.sff_format.proofs.HeaderLaws.{offset-is, index-length-is, count-is, characters-are}
 use Rattle.sff_format.proofs.FileTaken.{header-first, file-taken, file-back}

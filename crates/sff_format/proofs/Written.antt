@@ -10,7 +10,7 @@ use borrow.Author.Tests.{eqb-true, leb-true}
 use Rattle.octets.specs.Parts.{up8, padded, insertAt}
 use Rattle.octets.specs.Numbers.{Bytes, fields, words}
 use Rattle.octets.specs.Scans.{isFlowCharacter, isNameByte}
-use Rattle.octets.proofs.AllBytes.{bytes-both, bytes-left, bytes-right, bytes-take, bytes-drop, bytes-fields, bytes-words, bytes-filled, bytes-every}
+use Rattle.octets.proofs.AllBytes.{bytes-both, bytes-left, bytes-right, bytes-take, bytes-drop, bytes-fields, bytes-units, bytes-filled, bytes-every}
 use Rattle.sff_format.specs.Model.{Read, File, readFields, headerFields, layoutReadHeader, layoutReadData, layoutRead, layoutReads, layoutHeader, layoutIndex, layout}
 use Rattle.sff_format.specs.Rules.{indexSize}
 use Rattle.sff_format.specs.Valid.{ValidRead, ValidReads, Valid}
@@ -44,7 +44,7 @@ read-bytes characters r v =
     bytes-both (layoutReadHeader r) (layoutReadData r)
     (padding (n ++ r .name) (bytes-both n (r .name) (bytes-fields (readFields r)) (bytes-every isNameByte name-small (r .name) (v .name-good))))
     (padding (w ++ r .increments ++ r .bases ++ r .qualities)
-    (bytes-both (w ++ r .increments ++ r .bases) (r .qualities) (bytes-both (w ++ r .increments) (r .bases) (bytes-both w (r .increments) (bytes-words (r .values)) (y .0)) (y .1)) (y .2)))
+    (bytes-both (w ++ r .increments ++ r .bases) (r .qualities) (bytes-both (w ++ r .increments) (r .bases) (bytes-both w (r .increments) (bytes-units 2 (r .values)) (y .0)) (y .1)) (y .2)))
 
 reads-bytes : (characters : List ℕ) (rs : List Read) → ValidReads characters rs → Bytes (layoutReads rs)
 unfolding layoutReads

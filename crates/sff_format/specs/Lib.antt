@@ -1,5 +1,4 @@
--- In document 01's order: an answer; the rules; the model of a file and its layout; what a file may say; the tests; what an accepted file says; places; the insert; a read in numbers; reading on; a read by its position; writing.
-pub mod Answer
+-- In document 01's order: the rules; the model of a file and its layout; what a file may say; the tests; what an accepted file says; places; the insert; a read in numbers; reading on; a read by its position; writing.
 pub mod Rules
 pub mod Model
 pub mod Valid

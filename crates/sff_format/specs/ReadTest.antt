@@ -7,8 +7,8 @@ use lib.Dec.{ltb, eqb}
 use Rattle.octets.specs.Parts.{part, up8}
 use Rattle.octets.specs.Numbers.{number}
 use Rattle.octets.specs.Scans.{firstNot, isNameByte, isZero}
-use Rattle.sff_format.specs.declared.Answer.{Answer}
-use Rattle.sff_format.specs.Answer.{when, stopped, shifted, _then_}
+use Rattle.answers.specs.declared.Answer.{Answer}
+use Rattle.answers.specs.Answer.{when, stopped, shifted, _then_}
 use Rattle.sff_format.specs.Rules.{leftLimit, rightLimit, walkRun, callRun}
 
 -- the length of its header section

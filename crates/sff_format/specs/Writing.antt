@@ -8,11 +8,11 @@ use lib.Dec.{ltb, eqb}
 use Rattle.octets.specs.Parts.{putAt}
 use Rattle.octets.specs.Numbers.{Bytes, bytesOf, Words}
 use Rattle.octets.specs.Scans.{fails, isFlowCharacter, isNameByte}
-use Rattle.sff_format.specs.declared.Answer.{Answer}
-use Rattle.sff_format.specs.declared.Answer.the-variants.{Accepted}
+use Rattle.answers.specs.declared.Answer.{Answer}
+use Rattle.answers.specs.declared.Answer.the-variants.{Accepted}
 use Rattle.sff_format.specs.declared.Outcome.{Outcome}
 use Rattle.sff_format.specs.declared.Clips.{Clips}
-use Rattle.sff_format.specs.Answer.{when, own, _then_, acceptedOr}
+use Rattle.answers.specs.Answer.{when, own, _then_, acceptedOr}
 use Rattle.sff_format.specs.Rules.{declared}
 use Rattle.sff_format.specs.Model.{Read, File, noIndex, layoutRead, layout}
 use Rattle.sff_format.specs.HeaderTest.{indexOffset, indexLength, readCount, flowCharacters}

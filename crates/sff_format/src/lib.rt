@@ -1,10 +1,5 @@
 // The types that the definitions and the code share. There is no function here.
-
-// What a test answers: document 01's number of the refusal and its byte place.
-pub enum Answer {
-    Accepted,
-    Refused(u8, usize),
-}
+use answers::Answer;
 
 // Bytes of a file: the place of the first, and how many.
 pub struct Stretch {

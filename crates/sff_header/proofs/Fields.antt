@@ -3,9 +3,9 @@ use Prim.Native.Nat.{ℕ, _+_}
 use mathlib.Core.Path.{_≡_}
 use mathlib.Core.List.{List}
 use Rattle.octets.specs.Parts.{up8}
-use Rattle.sff_format.specs.declared.Answer.the-variants.{Accepted}
+use Rattle.answers.specs.declared.Answer.the-variants.{Accepted}
 use Rattle.sff_format.specs.HeaderTest.{indexOffset, indexLength, readCount, headerLength, keyLength, flows, fixedTest}
-use Rattle.sff_format.proofs.Answers.{second-ok, same-ok}
+use Rattle.answers.proofs.Answers.{second-ok, same-ok}
 use Rattle.sff_header.specs.declared.Header.{Header}
 use Rattle.sff_header.specs.Header.{headerOf}
 

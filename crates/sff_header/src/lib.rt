@@ -10,11 +10,11 @@ ghost use Rattle.sff_header.specs.Header.{headerOf, Small};
 pub mod inner;
 
 use crate::inner::is_declared;
+use answers::Answer;
 use octets::ByteTest;
 use octets::first_not;
 use octets::get32;
 use octets::up8;
-use sff_format::Answer;
 
 // The fields of the common header that differ from file to file.
 pub struct Header {

@@ -1,9 +1,9 @@
 // The insert of a read by its position. Where a call is refused, `sff_find::position_test` on the same inputs gives the number.
 ghost use mathlib.Core.Path.{_≡_};
 ghost use Rattle.sff_format.specs.Position.{fileInsert, fileFirst, fileLast};
+use answers::Answer;
 use sff_find::inner::view_of;
 use sff_find::position_test;
-use sff_format::Answer;
 use sff_read::first_base;
 use sff_read::last_base;
 use sff_walk::BasePosition;

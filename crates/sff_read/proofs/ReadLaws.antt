@@ -9,11 +9,12 @@ use lib.ListN.{length}
 use Rattle.octets.specs.Parts.{part, up8}
 use Rattle.octets.specs.Scans.{firstNot, isZero}
 use Rattle.octets.proofs.Lists.{length-part}
-use Rattle.sff_format.specs.declared.Answer.{Answer}
-use Rattle.sff_format.specs.declared.Answer.the-variants.{Accepted, Refused}
-use Rattle.sff_format.specs.Answer.{when, stopped, shifted, _then_}
+use Rattle.answers.specs.declared.Answer.{Answer}
+use Rattle.answers.specs.declared.Answer.the-variants.{Accepted, Refused}
+use Rattle.answers.specs.Answer.{when, stopped, shifted, _then_}
 use Rattle.sff_format.specs.ReadTest.{sectionLength, nameLength, nameTest, clipTest, basesTest, dataTest, readTest}
-use Rattle.sff_format.proofs.Answers.{first-ok, second-ok, under-ok, bases-in}
+use Rattle.answers.proofs.Answers.{first-ok, second-ok, under-ok}
+use Rattle.sff_format.proofs.Bases.{bases-in}
 use Rattle.sff_read.specs.declared.inner.ReadFields.{ReadFields}
 use Rattle.sff_read.specs.Fields.{FieldsAt}
 

@@ -7,16 +7,16 @@ use native.Mathlib.Omega.{arith}
 use lib.ListN.{length}
 use lib.Dec.{ltb}
 use borrow.Author.Tests.{ltb-true}
-use Rattle.sff_format.specs.declared.Answer.{Answer}
-use Rattle.sff_format.specs.declared.Answer.the-variants.{Accepted, Refused}
+use Rattle.answers.specs.declared.Answer.{Answer}
+use Rattle.answers.specs.declared.Answer.the-variants.{Accepted, Refused}
 use Rattle.sff_format.specs.declared.ReadView.{ReadView}
-use Rattle.sff_format.specs.Answer.{_then_}
+use Rattle.answers.specs.Answer.{_then_}
 use Rattle.sff_format.specs.HeaderTest.{headerTest, readCount, flows, flowCharacters}
 use Rattle.sff_format.specs.ReadTest.{readTest, readEnd}
 use Rattle.sff_format.specs.FileTest.{endTest}
 use Rattle.sff_format.specs.Step.{State, readOrNone, stepTest, boundary, indexPassed, moved, found, step}
 use Rattle.sff_format.specs.View.{viewAt}
-use Rattle.sff_format.proofs.Answers.{not-accepted, first-ok, second-ok, under-ok}
+use Rattle.answers.proofs.Answers.{not-accepted, first-ok, second-ok, under-ok}
 use Rattle.sff_format.proofs.Steps.{step-found}
 
 module _ (b : List ℕ) (s : State) (e : stepTest b s ≡ Accepted) where

@@ -8,9 +8,9 @@ use borrow.Author.Tests.{lt-ltb, le-ltb, eq-eqb, ne-eqb}
 use lib.ListN.{length, take, drop}
 use Rattle.octets.specs.Parts.{part, same, up8}
 use Rattle.octets.proofs.Lists.{length-part}
-use Rattle.sff_format.specs.declared.Answer.{Answer}
-use Rattle.sff_format.specs.declared.Answer.the-variants.{Accepted, Refused}
-use Rattle.sff_format.specs.Answer.{when, acceptedOr, _then_}
+use Rattle.answers.specs.declared.Answer.{Answer}
+use Rattle.answers.specs.declared.Answer.the-variants.{Accepted, Refused}
+use Rattle.answers.specs.Answer.{when, acceptedOr, _then_}
 use Rattle.sff_format.specs.Rules.{declared}
 use Rattle.sff_format.specs.Model.{Read, noIndex, layout}
 use Rattle.sff_format.specs.Valid.{Valid}

@@ -8,13 +8,13 @@ use lib.ListN.{length}
 use Rattle.octets.specs.Parts.{part, same}
 use Rattle.octets.proofs.Lists.{length-part}
 use Rattle.octets.proofs.Same.{same-lengths}
-use Rattle.sff_format.specs.declared.Answer.the-variants.{Accepted}
-use Rattle.sff_format.specs.Answer.{_then_}
+use Rattle.answers.specs.declared.Answer.the-variants.{Accepted}
+use Rattle.answers.specs.Answer.{_then_}
 use Rattle.sff_format.specs.HeaderTest.{flows, flowCharacters}
 use Rattle.sff_format.specs.ReadTest.{nameLength, readTest, readEnd}
 use Rattle.sff_format.specs.FileTest.{indexHere, boundaryTest}
 use Rattle.sff_format.specs.Parse.{parseRead, parseReads}
-use Rattle.sff_format.proofs.Answers.{first-ok, second-ok}
+use Rattle.answers.proofs.Answers.{first-ok, second-ok}
 use Rattle.sff_format.proofs.Boundaries.{here-done, boundary-read, parse-none, parse-read}
 use Rattle.sff_format.proofs.ReadLaid.{fits-16, section-is, section-fits}
 use Rattle.sff_format.proofs.Steps.{read-fits}

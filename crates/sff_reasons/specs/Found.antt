@@ -4,7 +4,7 @@ use mathlib.Core.Bool.{false}
 use mathlib.Core.Path.{_≡_}
 use mathlib.Core.List.{List}
 use lib.ListN.{length}
-use Rattle.sff_format.specs.declared.Answer.the-variants.{Accepted}
+use Rattle.answers.specs.declared.Answer.the-variants.{Accepted}
 use Rattle.sff_format.specs.Rules.{declared}
 use Rattle.sff_format.specs.HeaderTest.{indexOffset, indexLength, readCount, headerTest}
 use Rattle.sff_format.specs.FileTest.{boundaryTest, fileTest}

@@ -9,9 +9,9 @@ use lib.ListN.{length}
 use borrow.Author.Tests.{lt-ltb, le-ltb, eq-eqb, ne-eqb}
 use Rattle.octets.specs.Parts.{part}
 use Rattle.octets.specs.Scans.{fails, isNameByte, isZero}
-use Rattle.sff_format.specs.declared.Answer.{Answer}
-use Rattle.sff_format.specs.declared.Answer.the-variants.{Accepted, Refused}
-use Rattle.sff_format.specs.Answer.{when, _then_}
+use Rattle.answers.specs.declared.Answer.{Answer}
+use Rattle.answers.specs.declared.Answer.the-variants.{Accepted, Refused}
+use Rattle.answers.specs.Answer.{when, _then_}
 use Rattle.sff_correction.specs.Record.{kind, oldLength, newLength, nameFieldTest, unusedTest, newClipsTest, newNameTest, recordTest}
 
 -- the first of two tests is the answer where it refuses, and the second where the first accepts

@@ -3,10 +3,10 @@ ghost use mathlib.Core.Path.{_≡_};
 ghost use Prim.Native.Nat.{_+_, _≤_};
 ghost use lib.ListN.{length};
 ghost use Rattle.sff_correction.specs.Record.{nameFieldTest, unusedTest, newClipsTest, newNameTest, recordTest};
+use answers::Answer;
 use octets::ByteTest;
 use octets::fails;
 use octets::wide;
-use sff_format::Answer;
 
 // The n bytes from `at` on are zero.
 fn unused_test(record: &[u8], at: usize, n: usize) -> Answer

@@ -10,7 +10,7 @@ use Rattle.octets.specs.Parts.{part, putAt, up8, filled, padded}
 use Rattle.octets.specs.Numbers.{bytesOf, fields, words}
 use Rattle.octets.proofs.Lists.{put-nil, put-next, put-sets, length-put}
 use Rattle.octets.proofs.Digits.{length-bytesOf}
-use Rattle.octets.proofs.Stands.{width, length-fields, length-words}
+use Rattle.octets.proofs.Stands.{width, length-fields, length-units}
 use Rattle.sff_format.specs.declared.Clips.{Clips}
 use Rattle.sff_sections.specs.Sections.{clipFields, sectionFields, headerSection, dataSection, startFields, lengthFields}
 
@@ -142,7 +142,7 @@ unfolding dataSection
 data-put at vs ds bs qs s ed eq e₁ e₂ e₃ e₄ e₅ h =
     let F : ℕ = length vs in
     let N : ℕ = length bs in
-    let one : length (words vs) ≡ 2 * F = length-words vs in
+    let one : length (words vs) ≡ 2 * F = length-units 2 vs in
     let two : length (words vs ++ ds) ≡ 2 * F + N = simp (length-append, one, ed) in
     let three : length (words vs ++ ds ++ bs) ≡ 2 * F + 2 * N = simp (length-append, one, ed) (omega arith) in
     let four : length (words vs ++ ds ++ bs ++ qs) ≡ 2 * F + 3 * N = simp (length-append, one, ed, eq) (omega arith) in

@@ -6,9 +6,9 @@ use native.Mathlib.Omega.{arith}
 use lib.ListN.{length}
 use lib.Ieee.{binary64, ofBits, ofFields, odd}
 use Rattle.octets.specs.Numbers.{Bytes, wordsAt}
-use Rattle.sff_format.specs.declared.Answer.the-variants.{Accepted, Refused}
+use Rattle.answers.specs.declared.Answer.the-variants.{Accepted, Refused}
 use Rattle.sff_format.specs.declared.ReadView.{ReadView}
-use Rattle.sff_format.specs.Answer.{acceptedOr}
+use Rattle.answers.specs.Answer.{acceptedOr}
 use Rattle.sff_format.specs.HeaderTest.{flows}
 use Rattle.sff_format.specs.Position.{signalTest, viewOf}
 use Rattle.sff_format.proofs.Positions.{signal-position, signal-flows, flows-small, values-size, values-inside, values-chosen}

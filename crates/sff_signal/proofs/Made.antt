@@ -4,7 +4,7 @@ use mathlib.Core.Path.{_≡_}
 use mathlib.Core.List.{List}
 use lib.Ieee.{Float}
 use Rattle.octets.specs.Numbers.{wordsAt}
-use Rattle.octets.proofs.Stands.{length-wordsAt}
+use Rattle.octets.proofs.Stands.{length-unitsAt}
 use Rattle.sff_signal.specs.Signal.{sumOf, maxOf, minOf, over, summaryOf}
 
 pub made :
@@ -16,4 +16,4 @@ pub made :
     z ≡ over s (100 * n) →
     record { strongest = x; weakest = y; mean = z } ≡ summaryOf (wordsAt n at b)
 unfolding summaryOf
-made b at n m l s e x y z ex ey ez = rw (length-wordsAt, ex, ey, ez, e .0, e .1, e .2)
+made b at n m l s e x y z ex ey ez = rw (length-unitsAt, ex, ey, ez, e .0, e .1, e .2)

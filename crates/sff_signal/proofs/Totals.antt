@@ -4,7 +4,7 @@ use mathlib.Core.Path.{_≡_, refl, sym, ap, _∙_}
 use mathlib.Core.List.{List, [], _∷_}
 use native.Mathlib.Omega.{arith}
 use borrow.Author.Needs.{needs}
-use Rattle.octets.specs.Numbers.{number, wordsAt}
+use Rattle.octets.specs.Numbers.{number, wordsAt, unitsAt}
 use Rattle.sff_signal.specs.Signal.{sumOf, maxOf, minOf}
 
 -- the smallest of l and the list
@@ -30,7 +30,7 @@ abbrev rest : List ℕ → ℕ → ℕ → ℕ → List ℕ
 rest b at n i = wordsAt (n - i) (at + 2 * i) b
 
 rest-next : (b : List ℕ) (at n i x : ℕ) → i < n → x ≡ number 2 (at + 2 * i) b → rest b at n i ≡ x ∷ rest b at n (i + 1)
-unfolding wordsAt
+unfolding unitsAt
 rest-next b at n i x h e =
     let c : n - i ≡ suc (n - (i + 1)) = omega arith in
     let d : at + 2 * i + 2 ≡ at + 2 * (i + 1) = omega arith in
@@ -40,7 +40,7 @@ rest-all : (b : List ℕ) (at n : ℕ) → rest b at n 0 ≡ wordsAt n at b
 rest-all b at n = let e : at + 2 * 0 ≡ at = omega arith in let f : n - 0 ≡ n = omega arith in rw (e, f)
 
 rest-none : (b : List ℕ) (at n i : ℕ) → n ≤ i → rest b at n i ≡ []
-unfolding wordsAt
+unfolding unitsAt
 rest-none b at n i h = let e : n - i ≡ 0 = omega arith in rw e
 
 -- i values are seen: their largest, their smallest and their sum

@@ -5,7 +5,7 @@ use mathlib.Core.List.{List, [], _∷_}
 use lib.ListN.{length}
 use lib.IntN.{pos}
 use lib.Ieee.{Float, fin, binary64, div, ofInt}
-use Rattle.sff_format.specs.Answer.{acceptedOr}
+use Rattle.answers.specs.Answer.{acceptedOr}
 use Rattle.sff_format.specs.Parse.{parse}
 use Rattle.sff_format.specs.Places.{readAt}
 use Rattle.sff_format.specs.Position.{signalTest}

@@ -6,9 +6,9 @@ ghost use Rattle.sff_signal.specs.Signal.{fileSignal};
 pub mod inner;
 
 use crate::inner::values_summary;
+use answers::Answer;
 use sff_find::inner::view_of;
 use sff_find::position_test;
-use sff_format::Answer;
 use sff_header::inner::header_fields;
 
 // The strongest and the weakest signal of a read's flows, and the mean.

@@ -2,9 +2,9 @@
 use Prim.Native.Nat.{ℕ, _+_, _-_}
 use mathlib.Core.List.{List}
 use lib.ListN.{length, drop}
-use Rattle.sff_format.specs.declared.Answer.{Answer}
-use Rattle.sff_format.specs.declared.Answer.the-variants.{Refused}
-use Rattle.sff_format.specs.Answer.{stopped, _then_}
+use Rattle.answers.specs.declared.Answer.{Answer}
+use Rattle.answers.specs.declared.Answer.the-variants.{Refused}
+use Rattle.answers.specs.Answer.{stopped, _then_}
 use Rattle.sff_format.specs.Rules.{walkRun}
 
 -- the base at position k, whose flow position is f, is wrong: 10 where the rest of the walk stops, else 11 at that base

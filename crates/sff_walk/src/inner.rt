@@ -7,7 +7,7 @@ ghost use Rattle.sff_format.specs.ReadTest.{basesTest};
 ghost use Rattle.sff_walk.specs.Bases.{wrongBase};
 use crate::BasePosition;
 use crate::FlowPosition;
-use sff_format::Answer;
+use answers::Answer;
 
 // The place among the increments of the first one, from base position `base` on, that breaks the walk after flow position `flow`; or their end.
 fn walk_stop(

@@ -14,16 +14,16 @@ use Rattle.octets.specs.Scans.{fails, isNameByte, isFlowCharacter}
 use Rattle.octets.proofs.Lists.{part-take}
 use Rattle.octets.proofs.AllBytes.{bytes-take}
 use Rattle.octets.proofs.Stands.{number-small}
-use Rattle.sff_format.specs.declared.Answer.{Answer}
-use Rattle.sff_format.specs.declared.Answer.the-variants.{Accepted, Refused}
-use Rattle.sff_format.specs.Answer.{when, own, _then_, acceptedOr}
+use Rattle.answers.specs.declared.Answer.{Answer}
+use Rattle.answers.specs.declared.Answer.the-variants.{Accepted, Refused}
+use Rattle.answers.specs.Answer.{when, own, _then_, acceptedOr}
 use Rattle.sff_format.specs.Model.{Read, layoutRead, layout}
 use Rattle.sff_format.specs.Rules.{declared}
 use Rattle.sff_format.specs.HeaderTest.{indexOffset, indexLength, readCount, flows, flowCharacters}
 use Rattle.sff_format.specs.ReadTest.{clipTest, basesTest}
 use Rattle.sff_format.specs.FileTest.{fileTest}
 use Rattle.sff_format.specs.Writing.{newFile, newTest, newOutcome, newBuffer, badCounts, givenTest, openTest, appendTest, appendOutcome, appendBuffer}
-use Rattle.sff_format.proofs.Answers.{first-ok, second-ok, when-ok, under-ok}
+use Rattle.answers.proofs.Answers.{first-ok, second-ok, when-ok, under-ok}
 use Rattle.sff_format.proofs.HeaderLaws.{fits-31}
 use Rattle.sff_format.proofs.FileLaid.{head-ok}
 use Rattle.sff_format.proofs.Given.{counts-ok}

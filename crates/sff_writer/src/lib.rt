@@ -2,15 +2,15 @@
 ghost use mathlib.Core.Path.{_≡_};
 ghost use Prim.Native.Nat.{_<_};
 ghost use lib.ListN.{length};
-ghost use Rattle.sff_format.specs.Answer.{own};
+ghost use Rattle.answers.specs.Answer.{own};
 ghost use Rattle.sff_format.specs.ReadTest.{clipTest};
 ghost use Rattle.sff_format.specs.Writing.{newTest, newOutcome, newBuffer, readOf, badCounts, givenTest, openTest, appendTest, appendOutcome, appendBuffer};
+use answers::Answer;
 use octets::ByteTest;
 use octets::fails;
 use octets::get32;
 use octets::put32;
 use sff::file_test;
-use sff_format::Answer;
 use sff_format::Clips;
 use sff_format::Outcome;
 use sff_header::inner::header_fields;

@@ -1,6 +1,6 @@
 use mathlib.Core.Path.{ap, _∙_}
 use lib.ListN.{length}
-use Rattle.sff_format.specs.Answer.{numberOf, placeOf}
+use Rattle.answers.specs.Answer.{numberOf, placeOf}
 use Rattle.harness.specs.Outs.{putFront}
 use borrow.Author.Needs.{needs}
 use Rattle.harness.proofs.h_insert.Statement.{statement}

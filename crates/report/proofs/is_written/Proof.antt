@@ -1,5 +1,5 @@
 use borrow.Author.Needs.{needs}
-use Rattle.sff_format.specs.Answer.{acceptedOr}
+use Rattle.answers.specs.Answer.{acceptedOr}
 use Rattle.report.specs.Report.{isWritten}
 use Rattle.report.proofs.is_written.Statement.{statement}
 use Rattle.report.proofs.is_written.Tie as tie

@@ -1,4 +1,4 @@
-use Rattle.sff_format.specs.Answer.{_then_}
+use Rattle.answers.specs.Answer.{_then_}
 use mathlib.Core.Path.{sym, _∙_}
 use Rattle.sff_format.specs.FileTest.{fileTest}
 use Rattle.sff_format.proofs.HeaderLaws.{fits-31}

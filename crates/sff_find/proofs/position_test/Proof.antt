@@ -1,6 +1,6 @@
 use mathlib.Core.Path.{sym, _∙_}
 use native.Mathlib.Omega.{arith}
-use Rattle.sff_format.specs.Answer.{_then_}
+use Rattle.answers.specs.Answer.{_then_}
 use Rattle.sff_format.specs.Position.{positionTest}
 use Rattle.sff_format.proofs.HeaderLaws.{fits-31}
 use Rattle.sff_format.proofs.FileLaid.{head-ok}

@@ -1,6 +1,6 @@
-use Rattle.sff_format.specs.Answer.{when, _then_}
+use Rattle.answers.specs.Answer.{when, _then_}
 use Rattle.sff_format.specs.HeaderTest.{charactersTest}
-use Rattle.sff_format.proofs.Answers.{tests}
+use Rattle.answers.proofs.Answers.{tests}
 use Rattle.sff_header.proofs.Fields.{offset-of, index-length-of, length-of, key-length-of, flows-of}
 use borrow.Author.Needs.{needs}
 use Rattle.sff_header.proofs.characters_test.Statement.{statement}

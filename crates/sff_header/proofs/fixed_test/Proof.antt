@@ -1,7 +1,7 @@
 use Rattle.octets.proofs.Digits.{number-one}
-use Rattle.sff_format.specs.Answer.{when, _then_}
+use Rattle.answers.specs.Answer.{when, _then_}
 use Rattle.sff_format.specs.HeaderTest.{fixedTest}
-use Rattle.sff_format.proofs.Answers.{tests}
+use Rattle.answers.proofs.Answers.{tests}
 use Rattle.sff_header.proofs.Fields.{length-of, key-length-of, flows-of}
 use borrow.Author.Needs.{needs}
 use Rattle.sff_header.proofs.fixed_test.Statement.{statement}

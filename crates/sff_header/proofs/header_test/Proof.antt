@@ -1,7 +1,7 @@
 use mathlib.Core.Path.{sym, _∙_}
-use Rattle.sff_format.specs.Answer.{when, _then_}
+use Rattle.answers.specs.Answer.{when, _then_}
 use Rattle.sff_format.specs.HeaderTest.{headerTest}
-use Rattle.sff_format.proofs.Answers.{tests}
+use Rattle.answers.proofs.Answers.{tests}
 use Rattle.sff_header.proofs.Fields.{length-of, length-good}
 use borrow.Author.Needs.{needs}
 use Rattle.sff_header.proofs.header_test.Statement.{statement}

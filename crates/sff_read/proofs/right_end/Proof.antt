@@ -1,5 +1,5 @@
 use Rattle.sff_format.specs.Insert.{rightEnd}
-use Rattle.sff_format.proofs.Answers.{tests}
+use Rattle.answers.proofs.Answers.{tests}
 use Rattle.sff_read.proofs.right_end.Statement.{statement}
 use Rattle.sff_read.proofs.right_end.Tie as tie
 

@@ -1,6 +1,6 @@
-use Rattle.sff_format.specs.Answer.{_then_}
+use Rattle.answers.specs.Answer.{_then_}
 use Rattle.sff_format.specs.Step.{readOrNone}
-use Rattle.sff_format.proofs.Answers.{tests}
+use Rattle.answers.proofs.Answers.{tests}
 use Rattle.sff_header.proofs.Fields.{reads-of, flows-of}
 use Rattle.sff.proofs.Sections.{characters-fit}
 use borrow.Author.Needs.{needs}

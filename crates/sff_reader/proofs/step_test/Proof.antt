@@ -1,7 +1,7 @@
 use mathlib.Core.Path.{sym, _∙_}
-use Rattle.sff_format.specs.Answer.{_then_, when}
+use Rattle.answers.specs.Answer.{_then_, when}
 use Rattle.sff_format.specs.Step.{stepTest}
-use Rattle.sff_format.proofs.Answers.{tests}
+use Rattle.answers.proofs.Answers.{tests}
 use Rattle.sff_format.proofs.HeaderLaws.{fits-31}
 use Rattle.sff_format.proofs.Steps.{past-fits}
 use borrow.Author.Needs.{needs}

@@ -1,6 +1,6 @@
 use mathlib.Core.Path.{sym, _∙_}
 use borrow.Author.Needs.{needs}
-use Rattle.sff_format.specs.Answer.{_then_}
+use Rattle.answers.specs.Answer.{_then_}
 use Rattle.sff_format.specs.Position.{signalTest}
 use Rattle.sff_format.proofs.HeaderLaws.{fits-31}
 use Rattle.sff_format.proofs.FileLaid.{head-ok}

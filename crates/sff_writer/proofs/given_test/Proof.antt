@@ -1,5 +1,5 @@
 use mathlib.Core.Path.{sym, ap, _∙_}
-use Rattle.sff_format.specs.Answer.{own}
+use Rattle.answers.specs.Answer.{own}
 use Rattle.sff_format.proofs.Given.{counts-ok}
 use Rattle.sff_writer.proofs.Reasons.{given-30, given-5, given-6, given-9, given-bases}
 use borrow.Author.Needs.{needs}

@@ -1,4 +1,4 @@
-use Rattle.sff_format.specs.Answer.{own}
+use Rattle.answers.specs.Answer.{own}
 use borrow.Author.Needs.{needs}
 use Rattle.sff_writer.proofs.own.Statement.{statement}
 use Rattle.sff_writer.proofs.own.Tie as tie

@@ -1,5 +1,5 @@
-use Rattle.sff_format.proofs.Answers.{tests}
-use Rattle.sff_format.specs.Answer.{_then_, when}
+use Rattle.answers.proofs.Answers.{tests}
+use Rattle.answers.specs.Answer.{_then_, when}
 use Rattle.sff_format.specs.FileTest.{endTest}
 use Rattle.sff_header.proofs.Fields.{offset-of, index-length-of}
 use borrow.Author.Needs.{needs}

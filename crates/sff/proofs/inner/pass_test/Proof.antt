@@ -1,5 +1,5 @@
-use Rattle.sff_format.proofs.Answers.{tests}
-use Rattle.sff_format.specs.Answer.{when}
+use Rattle.answers.proofs.Answers.{tests}
+use Rattle.answers.specs.Answer.{when}
 use native.Mathlib.Omega.{arith}
 use Rattle.sff_format.specs.FileTest.{passTest}
 use Rattle.sff_format.proofs.Sizes.{size-most}

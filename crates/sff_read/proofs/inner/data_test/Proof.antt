@@ -1,6 +1,6 @@
 use Rattle.sff_read.proofs.ReadLaws.{data-by-flows}
-use Rattle.sff_format.specs.Answer.{_then_, when}
-use Rattle.sff_format.proofs.Answers.{tests}
+use Rattle.answers.specs.Answer.{_then_, when}
+use Rattle.answers.proofs.Answers.{tests}
 use borrow.Author.Needs.{needs}
 use Rattle.sff_read.proofs.inner.data_test.Statement.{statement}
 use Rattle.sff_read.proofs.inner.data_test.Tie as tie

@@ -1,6 +1,6 @@
-use Rattle.sff_format.specs.Answer.{_then_, when}
+use Rattle.answers.specs.Answer.{_then_, when}
 use Rattle.sff_format.specs.ReadTest.{readTest}
-use Rattle.sff_format.proofs.Answers.{tests}
+use Rattle.answers.proofs.Answers.{tests}
 use Rattle.sff_read.proofs.ReadLaws.{name-fits, clips-stop, data-left}
 use borrow.Author.Needs.{needs}
 use Rattle.sff_read.proofs.inner.read_test.Statement.{statement}

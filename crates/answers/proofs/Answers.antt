@@ -1,8 +1,8 @@
 -- A chain of tests accepts exactly if each accepts; a scan accepts exactly if it reaches the end. Assumes nothing.
 use Prim.Native.Nat.{ℕ, _+_, _-_, _≤_, _<_}
 use mathlib.Core.Path.{_≡_, refl, sym, ap}
-use mathlib.Core.Bool.{Bool, true, false, not, _&&_}
-use mathlib.Core.List.{List, [], _∷_}
+use mathlib.Core.Bool.{Bool, true, false, not}
+use mathlib.Core.List.{List}
 use native.Mathlib.Omega.{arith}
 use lib.Dec.{ltb, eqb}
 use lib.ListN.{length}
@@ -10,12 +10,10 @@ use borrow.Author.Tests.{not-false, ltb-true, ltb-false, lt-ltb, le-ltb, eqb-tru
 use Rattle.octets.specs.Parts.{part}
 use Rattle.octets.specs.Scans.{run, firstNot, Every}
 use Rattle.octets.proofs.Lists.{length-part}
-use Rattle.octets.proofs.Scan.{more-le, run-le}
-use Rattle.sff_format.specs.declared.Answer.{Answer}
-use Rattle.sff_format.specs.declared.Answer.the-variants.{Accepted, Refused}
-use Rattle.sff_format.specs.Answer.{placeOf, when, stopped, shifted, own, _then_}
-use Rattle.sff_format.specs.Rules.{isFlow, isCall, walkRun, callRun}
-use Rattle.sff_format.specs.ReadTest.{basesTest}
+use Rattle.octets.proofs.Scan.{run-le}
+use Rattle.answers.specs.declared.Answer.{Answer}
+use Rattle.answers.specs.declared.Answer.the-variants.{Accepted, Refused}
+use Rattle.answers.specs.Answer.{placeOf, when, stopped, shifted, own, _then_}
 
 -- the code's tests as those of the definitions, for `search`
 pub ruleset tests = (lt-ltb, le-ltb, eq-eqb, ne-eqb)
@@ -75,18 +73,6 @@ same-ok x y n p e = eqb-true x y (not-false _ (when-ok _ n p e))
 pub ok-same : (x y n p : ℕ) → x ≡ y → when (not (eqb x y)) n p ≡ Accepted
 ok-same x y n p e = ok-when _ n p (ap not (eq-eqb x y e))
 
--- a run is at most the length
-walk-le : (F f : ℕ) (xs : List ℕ) → walkRun F f xs ≤ length xs
-unfolding walkRun
-walk-le F f [] = omega arith
-walk-le F f (x ∷ xs) = more-le (isFlow F (f + x)) _ _ (walk-le F (f + x) xs)
-
-call-le : (characters : List ℕ) (f : ℕ) (xs ys : List ℕ) → callRun characters f xs ys ≤ length ys
-unfolding callRun
-call-le characters f [] ys = omega arith
-call-le characters f (x ∷ xs) [] = omega arith
-call-le characters f (x ∷ xs) (y ∷ ys) = more-le (isFlow (length characters) (f + x) && isCall characters (f + x) y) _ _ (call-le characters (f + x) xs ys)
-
 -- scans from a place over n bytes, to an end that is their sum
 module _ (b : List ℕ) (p n to c : ℕ) (e : to ≡ p + n) (fits : p + n ≤ length b) where
   span : to - p ≡ n
@@ -123,27 +109,11 @@ pub ok-own : (a : Answer) → a ≡ Accepted → own a ≡ Accepted
 unfolding own
 ok-own a e = rw e
 
--- increments and bases are accepted exactly if the walk and the calls go to the end
-module _ (characters xs ys : List ℕ) where
-  pub walk-ok : basesTest characters xs ys ≡ Accepted → walkRun (length characters) 0 xs ≡ length xs
-  unfolding basesTest
-  walk-ok e = let h : length xs ≤ walkRun (length characters) 0 xs = under-ok _ _ _ _ (first-ok _ _ e) in omega (arith, h, walk-le (length characters) 0 xs)
-
-  pub calls-ok : basesTest characters xs ys ≡ Accepted → callRun characters 0 xs ys ≡ length ys
-  unfolding basesTest
-  calls-ok e = let h : length xs + length ys ≤ length xs + callRun characters 0 xs ys = under-ok _ _ _ _ (second-ok _ _ e) in omega (arith, h, call-le characters 0 xs ys)
-
-  pub ok-bases : walkRun (length characters) 0 xs ≡ length xs → callRun characters 0 xs ys ≡ length ys → basesTest characters xs ys ≡ Accepted
-  unfolding basesTest
-  ok-bases e f =
-      both-ok _ _ (ok-under (walkRun (length characters) 0 xs) (length xs) _ _ (omega arith))
-      (ok-under (length xs + callRun characters 0 xs ys) (length xs + length ys) _ _ (omega arith))
-
--- a refused test over increments and bases names one of them
-refused-not : {A : Type 0} (n p : ℕ) → Accepted ≡ Refused n p → A
+-- the place of a chain of scans that refuses lies before the end
+pub refused-not : {A : Type 0} (n p : ℕ) → Accepted ≡ Refused n p → A
 refused-not n p e = not-accepted n p (sym e)
 
-stopped-in : (c q end n p : ℕ) → stopped c q end ≡ Refused n p → p < end
+pub stopped-in : (c q end n p : ℕ) → stopped c q end ≡ Refused n p → p < end
 unfolding when
 stopped-in c q end n p e = go (ltb q end) refl e
   where
@@ -151,14 +121,7 @@ stopped-in c q end n p e = go (ltb q end) refl e
     go true l f = let h = ltb-true q end l in let z : q ≡ p = ap placeOf f in omega arith
     go false l f = refused-not n p f
 
-then-refused : (a b : Answer) (n p end : ℕ) → (a ≡ Refused n p → p < end) → (b ≡ Refused n p → p < end) → (a then b) ≡ Refused n p → p < end
+pub then-refused : (a b : Answer) (n p end : ℕ) → (a ≡ Refused n p → p < end) → (b ≡ Refused n p → p < end) → (a then b) ≡ Refused n p → p < end
 unfolding _then_
 then-refused Accepted b n p end f g e = g e
 then-refused (Refused m q) b n p end f g e = f e
-
-pub bases-in : (characters xs ys : List ℕ) (n p : ℕ) → basesTest characters xs ys ≡ Refused n p → p < length xs + length ys
-unfolding basesTest
-bases-in characters xs ys n p e =
-    then-refused _ _ n p (length xs + length ys)
-    (λ f. let h = stopped-in _ (walkRun (length characters) 0 xs) (length xs) n p f in omega arith)
-    (λ f. stopped-in _ (length xs + callRun characters 0 xs ys) (length xs + length ys) n p f) e

@@ -1,0 +1,99 @@
+-- A block: its format, its header, its data, and what undoing its filter gives. Assumes nothing: these are definitions.
+use Prim.Native.Nat.{ℕ}
+use mathlib.Core.Bool.{Bool, true, false, cond, not, _&&_, _||_}
+use mathlib.Core.List.{List, [], _∷_}
+use lib.ListN.{length, drop, getD}
+use lib.Dec.{eqb, leb, ltb}
+use Rattle.octets.specs.Parts.{part}
+use Rattle.octets.specs.Scans.{firstNot, isZero}
+use Rattle.answers.specs.declared.Answer.{Answer}
+use Rattle.answers.specs.Answer.{when, _then_}
+use Rattle.filter_format.specs.declared.Filter.{Filter}
+use Rattle.filter_format.specs.declared.Filter.the-variants.{Raw, Delta, Narrow, Follow, Other}
+use Rattle.filter_format.specs.Units.{notWhole}
+use Rattle.filter_format.specs.Delta.{undeltaBytes}
+use Rattle.filter_format.specs.Narrow.{widen, lacking}
+use Rattle.filter_format.specs.Follow.{unfollowed}
+
+-- the formats and the width of their units
+unfoldable pub filterOf : ℕ → Filter
+filterOf format =
+    cond (eqb format 0) Raw
+    (cond (eqb format 64) (Delta 1)
+    (cond (eqb format 65) (Delta 2)
+    (cond (eqb format 66) (Delta 4)
+    (cond (eqb format 70) (Narrow 2)
+    (cond (eqb format 71) (Narrow 4)
+    (cond (eqb format 72) Follow Other))))))
+
+-- "Byte 0 is the format"
+abbrev pub filterAt : List ℕ → Filter
+filterAt b = filterOf (getD b 0 0)
+
+abbrev pub isRaw : Filter → Bool
+isRaw Raw = true
+isRaw (Delta w) = false
+isRaw (Narrow w) = false
+isRaw Follow = false
+isRaw Other = false
+
+-- "these six formats"
+abbrev pub isFilter : Filter → Bool
+isFilter Raw = false
+isFilter (Delta w) = true
+isFilter (Narrow w) = true
+isFilter Follow = true
+isFilter Other = false
+
+-- where the data begin: behind the format byte, for 64 and 65 behind the level byte, for 66 behind two zeros more, for 72 behind "256 follow bytes"
+unfoldable pub headerLength : Filter → ℕ
+headerLength Raw = 1
+headerLength (Delta w) = cond (eqb w 4) 4 2
+headerLength (Narrow w) = 1
+headerLength Follow = 257
+headerLength Other = 1
+
+abbrev pub levelAt : List ℕ → ℕ
+levelAt b = getD b 1 0
+
+abbrev pub followAt : List ℕ → List ℕ
+followAt b = part 1 256 b
+
+abbrev pub dataAt : List ℕ → List ℕ
+dataAt b = drop (headerLength (filterAt b)) b
+
+-- "level byte, 1 to 3 here"
+abbrev pub badLevel : ℕ → Bool
+badLevel level = not (leb 1 level && leb level 3)
+
+-- "42 level or zeros wrong"
+unfoldable pub badHeader : Filter → List ℕ → Bool
+badHeader Raw b = false
+badHeader (Delta w) b = badLevel (levelAt b) || ltb (firstNot isZero 2 (headerLength (Delta w)) b) (headerLength (Delta w))
+badHeader (Narrow w) b = false
+badHeader Follow b = false
+badHeader Other b = false
+
+-- "43 data not whole units, or 128 with too few bytes after it"
+unfoldable pub badData : Filter → List ℕ → Bool
+badData Raw s = false
+badData (Delta w) s = notWhole w s
+badData (Narrow w) s = ltb 0 (lacking w 0 s)
+badData Follow s = false
+badData Other s = false
+
+-- what the block gives: "0: the rest is the data"; "Undoing a filter gives another block"
+unfoldable pub undone : Filter → List ℕ → List ℕ
+undone Raw b = drop 1 b
+undone (Delta w) b = undeltaBytes w (levelAt b) (drop (headerLength (Delta w)) b)
+undone (Narrow w) b = widen w 0 (drop 1 b)
+undone Follow b = unfollowed (followAt b) (drop 257 b)
+undone Other b = []
+
+-- "40 header cut short; 42 level or zeros wrong; 43 data not whole units, or 128 with too few bytes after it; 26 a result above the room. Place 0"
+unfoldable pub contentsTest : ℕ → List ℕ → Answer
+contentsTest room b =
+    when (ltb (length b) (headerLength (filterAt b))) 40 0
+    then when (badHeader (filterAt b) b) 42 0
+    then when (badData (filterAt b) (dataAt b)) 43 0
+    then when (ltb room (length (undone (filterAt b) b))) 26 0

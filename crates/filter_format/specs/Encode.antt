@@ -1,0 +1,68 @@
+-- Encoding one layer. Assumes nothing: these are definitions.
+use Prim.Native.Nat.{ℕ, _-_}
+use mathlib.Core.Bool.{Bool, true, false, not}
+use mathlib.Core.List.{List, [], _∷_, _++_}
+use lib.ListN.{length, replicate}
+use lib.Dec.{eqb, ltb}
+use Rattle.octets.specs.Parts.{putAt}
+use Rattle.answers.specs.declared.Answer.{Answer}
+use Rattle.answers.specs.Answer.{when, _then_}
+use Rattle.filter_format.specs.declared.Filter.{Filter}
+use Rattle.filter_format.specs.declared.Filter.the-variants.{Raw, Delta, Narrow, Follow, Other}
+use Rattle.filter_format.specs.Units.{unitsOf, notWhole}
+use Rattle.filter_format.specs.Delta.{deltaBytes}
+use Rattle.filter_format.specs.Narrow.{narrow}
+use Rattle.filter_format.specs.Follow.{followed}
+use Rattle.filter_format.specs.Block.{filterOf, isFilter, headerLength, badLevel}
+use Rattle.filter_format.specs.Undo.{Result, tested}
+
+-- "42 (level, or follow bytes not 256 for 72)": the level is judged for 64 to 66 alone, the follow bytes for 72 alone
+unfoldable pub badGiven : Filter → ℕ → List ℕ → Bool
+badGiven Raw level follow = false
+badGiven (Delta w) level follow = badLevel level
+badGiven (Narrow w) level follow = false
+badGiven Follow level follow = not (eqb (length follow) 256)
+badGiven Other level follow = false
+
+-- "43": the data to encode are not whole units
+unfoldable pub badUnits : Filter → List ℕ → Bool
+badUnits Raw s = false
+badUnits (Delta w) s = notWhole w s
+badUnits (Narrow w) s = notWhole w s
+badUnits Follow s = false
+badUnits Other s = false
+
+-- the bytes between the format byte and the data
+unfoldable pub headerRest : Filter → ℕ → List ℕ → List ℕ
+headerRest Raw level follow = []
+headerRest (Delta w) level follow = level ∷ replicate (headerLength (Delta w) - 2) 0
+headerRest (Narrow w) level follow = []
+headerRest Follow level follow = follow
+headerRest Other level follow = []
+
+-- the data behind the filter
+unfoldable pub encodedData : Filter → ℕ → List ℕ → List ℕ → List ℕ
+encodedData Raw level follow s = s
+encodedData (Delta w) level follow s = deltaBytes w level s
+encodedData (Narrow w) level follow s = narrow w (unitsOf w s)
+encodedData Follow level follow s = followed follow s
+encodedData Other level follow s = []
+
+-- the block
+unfoldable pub encoded : ℕ → ℕ → List ℕ → List ℕ → List ℕ
+encoded format level follow s = format ∷ (headerRest (filterOf format) level follow ++ encodedData (filterOf format) level follow s)
+
+-- "Encoding one layer refuses 41 (format not 64 to 66 or 70 to 72), 42 (level, or follow bytes not 256 for 72), 43, 26 in that order"
+unfoldable pub encodeTest : ℕ → ℕ → ℕ → List ℕ → List ℕ → Answer
+encodeTest room format level follow s =
+    when (not (isFilter (filterOf format))) 41 0
+    then when (badGiven (filterOf format) level follow) 42 0
+    then when (badUnits (filterOf format) s) 43 0
+    then when (ltb room (length (encoded format level follow s))) 26 0
+
+unfoldable pub encode : ℕ → ℕ → ℕ → List ℕ → List ℕ → Result
+encode room format level follow s = tested (encodeTest room format level follow s) (encoded format level follow s)
+
+-- "changing nothing; success writes the block only"
+abbrev pub outAfter : Result → List ℕ → List ℕ
+outAfter result out = putAt 0 (result .bytes) out

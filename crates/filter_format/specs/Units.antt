@@ -1,0 +1,24 @@
+-- Data as units of w bytes, big endian. Assumes nothing: these are definitions.
+use Prim.Native.Nat.{ℕ, _/_, _%_, _^_, _<_, _≤_}
+use mathlib.Core.Bool.{Bool, not}
+use mathlib.Core.List.{List}
+use mathlib.Core.Logic.{_≢_}
+use lib.ListN.{length}
+use lib.Dec.{eqb}
+use Rattle.octets.specs.Numbers.{unitsAt}
+
+-- "units of 1, 2, 4 bytes", said so that `omega` reads it
+abbrev pub IsWidth : ℕ → Type 0
+IsWidth w = (0 < w) × (w ≤ 4) × (w ≢ 3)
+
+-- "the unit's range"
+abbrev pub range : ℕ → ℕ
+range w = 256 ^ w
+
+-- the units of the data s
+abbrev pub unitsOf : ℕ → List ℕ → List ℕ
+unitsOf w s = unitsAt w (length s / w) 0 s
+
+-- "data not whole units"
+abbrev pub notWhole : ℕ → List ℕ → Bool
+notWhole w s = not (eqb (length s % w) 0)

@@ -1,0 +1,5 @@
+pub mod Wholes
+pub mod Scans
+pub mod Levels
+pub mod Narrowing
+pub mod Following

@@ -1,0 +1,32 @@
+-- Format 72: the way there and back, and a turn of the loop. Assumes nothing.
+use mathlib.Core.Path.{_≡_, refl, sym, ap, _∙_}
+use mathlib.Core.List.{List, [], _∷_, _++_, append-nil, append-assoc}
+use Prim.Native.Nat.{ℕ, zero, suc, _+_, _-_, _%_, _<_, _≤_}
+use native.Mathlib.Nat.{mod-lt}
+use native.Mathlib.Numerals.{add-one}
+use native.Mathlib.Omega.{arith}
+use lib.ListN.{length, getD, take, drop, set, drop-of-length-le}
+use lib.Seq.{drop-cons, take-suc-set, drop-set-lt, append-snoc, take-all}
+use Rattle.octets.specs.Numbers.{Below}
+use Rattle.filter_format.specs.Delta.{scan, latest}
+use Rattle.filter_format.specs.Follow.{predicted, followed, unfollowed}
+use Rattle.filter_format.proofs.Scans.{there-and-back}
+
+module _ (f : List ℕ) (bytes : (i : ℕ) → getD f i 0 < 256) where
+  predicted-predicted : (p x : ℕ) → p < 256 → x < 256 → predicted f p (predicted f p x) ≡ x
+  predicted-predicted p x hp hx = omega (arith, bytes p)
+
+  predicted-lt : (p x : ℕ) → predicted f p x < 256
+  predicted-lt p x = mod-lt (getD f p 0 + (256 - x)) (omega arith)
+
+  pub unfollow-follow : (xs : List ℕ) → Below 256 xs → unfollowed f (followed f xs) ≡ xs
+  unfolding followed unfollowed
+  unfollow-follow [] h = refl
+  unfollow-follow (x ∷ xs) h =
+      ap (λ (l : List ℕ). x ∷ l) (there-and-back 256 (predicted f) latest (predicted f) (predicted f) predicted-predicted predicted-predicted (λ p y hp hy. hy) x xs (h .0) (h .1))
+
+  pub follow-unfollow : (xs : List ℕ) → Below 256 xs → followed f (unfollowed f xs) ≡ xs
+  unfolding followed unfollowed
+  follow-unfollow [] h = refl
+  follow-unfollow (x ∷ xs) h =
+      ap (λ (l : List ℕ). x ∷ l) (there-and-back 256 (predicted f) (predicted f) (predicted f) latest predicted-predicted (λ p y hp hy. refl) (λ p y hp hy. predicted-lt p y) x xs (h .0) (h .1))

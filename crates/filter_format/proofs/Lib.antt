@@ -3,3 +3,5 @@ pub mod Scans
 pub mod Levels
 pub mod Narrowing
 pub mod Following
+pub mod Blocks
+pub mod Layers

@@ -82,13 +82,17 @@ badData (Narrow w) s = ltb 0 (lacking w 0 s)
 badData Follow s = false
 badData Other s = false
 
+-- the data s with their filter undone
+unfoldable pub decoded : Filter → ℕ → List ℕ → List ℕ → List ℕ
+decoded Raw level follow s = s
+decoded (Delta w) level follow s = undeltaBytes w level s
+decoded (Narrow w) level follow s = widen w 0 s
+decoded Follow level follow s = unfollowed follow s
+decoded Other level follow s = []
+
 -- what the block gives: "0: the rest is the data"; "Undoing a filter gives another block"
-unfoldable pub undone : Filter → List ℕ → List ℕ
-undone Raw b = drop 1 b
-undone (Delta w) b = undeltaBytes w (levelAt b) (drop (headerLength (Delta w)) b)
-undone (Narrow w) b = widen w 0 (drop 1 b)
-undone Follow b = unfollowed (followAt b) (drop 257 b)
-undone Other b = []
+unfoldable pub undone : List ℕ → List ℕ
+undone b = decoded (filterAt b) (levelAt b) (followAt b) (dataAt b)
 
 -- "40 header cut short; 42 level or zeros wrong; 43 data not whole units, or 128 with too few bytes after it; 26 a result above the room. Place 0"
 unfoldable pub contentsTest : ℕ → List ℕ → Answer
@@ -96,4 +100,4 @@ contentsTest room b =
     when (ltb (length b) (headerLength (filterAt b))) 40 0
     then when (badHeader (filterAt b) b) 42 0
     then when (badData (filterAt b) (dataAt b)) 43 0
-    then when (ltb room (length (undone (filterAt b) b))) 26 0
+    then when (ltb room (length (undone b))) 26 0

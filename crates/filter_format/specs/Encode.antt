@@ -1,6 +1,7 @@
 -- Encoding one layer. Assumes nothing: these are definitions.
 use Prim.Native.Nat.{ℕ, _-_}
 use mathlib.Core.Bool.{Bool, true, false, not}
+use mathlib.Core.Path.{_≡_}
 use mathlib.Core.List.{List, [], _∷_, _++_}
 use lib.ListN.{length, replicate}
 use lib.Dec.{eqb, ltb}
@@ -13,7 +14,7 @@ use Rattle.filter_format.specs.Units.{unitsOf, notWhole}
 use Rattle.filter_format.specs.Delta.{deltaBytes}
 use Rattle.filter_format.specs.Narrow.{narrow}
 use Rattle.filter_format.specs.Follow.{followed}
-use Rattle.filter_format.specs.Block.{filterOf, isFilter, headerLength, badLevel}
+use Rattle.filter_format.specs.Block.{filterOf, isFilter, headerLength, levelAt, followAt, badLevel}
 use Rattle.filter_format.specs.Undo.{Result, tested}
 
 -- "42 (level, or follow bytes not 256 for 72)": the level is judged for 64 to 66 alone, the follow bytes for 72 alone
@@ -66,3 +67,11 @@ encode room format level follow s = tested (encodeTest room format level follow 
 -- "changing nothing; success writes the block only"
 abbrev pub outAfter : Result → List ℕ → List ℕ
 outAfter result out = putAt 0 (result .bytes) out
+
+-- "Encode after undo returns the block for 64, 65, 66, 72 (same level and follow bytes); not for 70, 71"
+abbrev pub SameFor : Filter → List ℕ → ℕ → List ℕ → Type 0
+SameFor Raw b level follow = ⊥
+SameFor (Delta w) b level follow = level ≡ levelAt b
+SameFor (Narrow w) b level follow = ⊥
+SameFor Follow b level follow = follow ≡ followAt b
+SameFor Other b level follow = ⊥

@@ -53,10 +53,10 @@ blockTest left room b =
 
 -- "Undoing a filter gives another block, until format 0. An opened layer hands its block to the choice of format, which opens the next layer"
 unfoldable pub undoFrom : ℕ → ℕ → List ℕ → Result
-undoFrom zero room b = tested (blockTest 0 room b) (undone (filterAt b) b)
+undoFrom zero room b = tested (blockTest 0 room b) (undone b)
 undoFrom (suc left) room b =
     acceptedOr (blockTest (suc left) room b)
-    (cond (isRaw (filterAt b)) (making (undone (filterAt b) b)) (undoFrom left room (undone (filterAt b) b)))
+    (cond (isRaw (filterAt b)) (making (undone b)) (undoFrom left room (undone b)))
     (refusing (blockTest (suc left) room b))
 
 -- "eight at most"
@@ -75,4 +75,4 @@ layerTest room b =
     then contentsTest room b
 
 unfoldable pub undoLayer : ℕ → List ℕ → Result
-undoLayer room b = tested (layerTest room b) (undone (filterAt b) b)
+undoLayer room b = tested (layerTest room b) (undone b)

@@ -1,0 +1,114 @@
+-- What a format says, what the tests of a block's contents tell, and how long its undoing is. Assumes nothing.
+use mathlib.Core.Path.{_≡_, refl, sym, ap, _∙_, subst}
+use mathlib.Core.Bool.{Bool, true, false, cond, not, _&&_, _||_}
+use mathlib.Core.List.{List, [], _∷_}
+use mathlib.Core.Logic.{_≢_}
+use Prim.Native.Nat.{ℕ, zero, suc, _+_, _-_, _*_, _%_, _<_, _≤_}
+use native.Mathlib.Omega.{arith}
+use borrow.Author.Tests.{eqb-true, ltb-false, not-false}
+use lib.Dec.{eqb, ltb}
+use lib.ListN.{length, drop, getD}
+use Rattle.answers.specs.declared.Answer.{Answer}
+use Rattle.answers.specs.declared.Answer.the-variants.{Accepted, Refused}
+use Rattle.answers.specs.Answer.{when, _then_}
+use Rattle.answers.proofs.Answers.{first-ok, second-ok, when-ok, under-ok}
+use Rattle.filter_format.specs.declared.Filter.{Filter}
+use Rattle.filter_format.specs.declared.Filter.the-variants.{Raw, Delta, Narrow, Follow, Other}
+use Rattle.filter_format.specs.Units.{IsWidth}
+use Rattle.filter_format.specs.Delta.{scan, undeltaBytes}
+use Rattle.filter_format.specs.Narrow.{widen, lacking, begun}
+use Rattle.filter_format.specs.Follow.{predicted, followed, unfollowed}
+use Rattle.filter_format.specs.Block.{filterOf, filterAt, headerLength, levelAt, followAt, dataAt, badHeader, badData, decoded, undone, contentsTest}
+use Rattle.filter_format.proofs.Scans.{length-scan}
+use Rattle.filter_format.proofs.Levels.{length-undelta}
+use Rattle.filter_format.proofs.Narrowing.{length-widen}
+
+-- a filter that a format stands for has the width of a unit
+abbrev pub Known : Filter → Type 0
+Known Raw = Unit {0}
+Known (Delta w) = IsWidth w
+Known (Narrow w) = (IsWidth w) × (2 ≤ w)
+Known Follow = Unit {0}
+Known Other = Unit {0}
+
+width : (w : ℕ) → 0 < w → w ≤ 4 → (w ≡ 3 → ⊥) → IsWidth w
+width w a b c = (a, b, c)
+
+pub known : (format : ℕ) → Known (filterOf format)
+unfolding filterOf
+known format =
+    pick (eqb format 0) Raw _ tt
+    (
+    pick (eqb format 64) (Delta 1) _ (width 1 (omega arith) (omega arith) (λ e. omega arith))
+    (
+    pick (eqb format 65) (Delta 2) _ (width 2 (omega arith) (omega arith) (λ e. omega arith))
+    (
+    pick (eqb format 66) (Delta 4) _ (width 4 (omega arith) (omega arith) (λ e. omega arith))
+    (
+    pick (eqb format 70) (Narrow 2) _ (width 2 (omega arith) (omega arith) (λ e. omega arith), omega arith)
+    (
+    pick (eqb format 71) (Narrow 4) _ (width 4 (omega arith) (omega arith) (λ e. omega arith), omega arith)
+    (pick (eqb format 72) Follow Other tt tt)
+    )
+    )
+    )
+    )
+    )
+  where
+    pick : (t : Bool) (f g : Filter) → Known f → Known g → Known (cond t f g)
+    pick true f g h k = h
+    pick false f g h k = k
+
+-- the tests of the contents, one by one
+module _ (room : ℕ) (b : List ℕ) (ok : contentsTest room b ≡ Accepted) where
+  pub header-fits : headerLength (filterAt b) ≤ length b
+  unfolding contentsTest
+  header-fits = under-ok _ _ _ _ (first-ok _ _ ok)
+
+  pub header-right : badHeader (filterAt b) b ≡ false
+  unfolding contentsTest
+  header-right = when-ok _ _ _ (first-ok _ _ (second-ok _ _ ok))
+
+  pub data-right : badData (filterAt b) (dataAt b) ≡ false
+  unfolding contentsTest
+  data-right = when-ok _ _ _ (first-ok _ _ (second-ok _ _ (second-ok _ _ ok)))
+
+  pub undone-fits : length (undone b) ≤ room
+  unfolding contentsTest
+  undone-fits = under-ok _ _ _ _ (second-ok _ _ (second-ok _ _ (second-ok _ _ ok)))
+
+-- data of whole units, and without a unit that is cut short
+pub whole-data : (w : ℕ) (s : List ℕ) → badData (Delta w) s ≡ false → length s % w ≡ 0
+unfolding badData
+whole-data w s e = eqb-true (length s % w) 0 (not-false _ e)
+
+pub none-lacking : (w : ℕ) (s : List ℕ) → badData (Narrow w) s ≡ false → lacking w 0 s ≡ 0
+unfolding badData
+none-lacking w s e = let h = ltb-false 0 (lacking w 0 s) e in omega arith
+
+-- how long the data are with their filter undone
+pub length-unfollowed : (follow s : List ℕ) → length (unfollowed follow s) ≡ length s
+unfolding unfollowed
+length-unfollowed follow [] = refl
+length-unfollowed follow (x ∷ xs) = ap suc (length-scan (predicted follow) (predicted follow) x xs)
+
+module _ (level : ℕ) (follow s : List ℕ) where
+  pub decoded-raw : decoded Raw level follow s ≡ s
+  unfolding decoded
+  decoded-raw = refl
+
+  pub length-raw : length (decoded Raw level follow s) ≡ length s
+  unfolding decoded
+  length-raw = refl
+
+  pub length-delta-undone : (w : ℕ) → IsWidth w → length s % w ≡ 0 → length (decoded (Delta w) level follow s) ≡ length s
+  unfolding decoded
+  length-delta-undone w k h = length-undelta w (k .0) s h level
+
+  pub length-widened : (w : ℕ) → lacking w 0 s ≡ 0 → length (decoded (Narrow w) level follow s) ≡ begun w 0 s * w
+  unfolding decoded
+  length-widened w h = let e = length-widen w 0 s h in omega arith
+
+  pub length-follow-undone : length (decoded Follow level follow s) ≡ length s
+  unfolding decoded
+  length-follow-undone = length-unfollowed follow s

@@ -1,0 +1,293 @@
+-- "Undo after encode returns the data"; "Encode after undo returns the block for 64, 65, 66, 72 (same level and follow bytes)". Assumes nothing.
+use mathlib.Core.Path.{_≡_, refl, sym, ap, _∙_, subst}
+use mathlib.Core.Bool.{Bool, true, false, cond, not, _&&_, _||_}
+use mathlib.Core.List.{List, [], _∷_, _++_}
+use Prim.Native.Nat.{ℕ, zero, suc, _+_, _-_, _*_, _%_, _<_, _≤_}
+use native.Mathlib.Nat.{add-comm}
+use native.Mathlib.Omega.{arith}
+use borrow.Author.Tests.{eqb-true, ne-eqb, ltb-false, le-ltb, not-false}
+use lib.Dec.{eqb, ltb}
+use lib.ListN.{length, take, drop, getD, replicate, length-append, take-append-drop}
+use lib.Seq.{take-at, drop-at, length-take-le}
+use Rattle.octets.specs.Parts.{part}
+use Rattle.octets.specs.Numbers.{Bytes}
+use Rattle.octets.specs.Scans.{run, oneMore, firstNot, isZero}
+use Rattle.octets.proofs.Lists.{length-part}
+use Rattle.octets.proofs.AllBytes.{bytes-part, bytes-drop}
+use Rattle.answers.specs.declared.Answer.{Answer}
+use Rattle.answers.specs.declared.Answer.the-variants.{Accepted, Refused}
+use Rattle.answers.specs.Answer.{when, _then_, acceptedOr}
+use Rattle.answers.proofs.Answers.{first-ok, second-ok, both-ok, when-ok, ok-when, under-ok, ok-under, not-accepted}
+use Rattle.filter_format.specs.declared.Filter.{Filter}
+use Rattle.filter_format.specs.declared.Filter.the-variants.{Raw, Delta, Narrow, Follow, Other}
+use Rattle.filter_format.specs.Units.{IsWidth, unitsOf, notWhole}
+use Rattle.filter_format.specs.Delta.{deltaBytes, undeltaBytes}
+use Rattle.filter_format.specs.Narrow.{narrow, widen, lacking}
+use Rattle.filter_format.specs.Follow.{followed, unfollowed}
+use Rattle.filter_format.specs.Block.{filterOf, filterAt, isRaw, isFilter, headerLength, levelAt, followAt, dataAt, badLevel, badHeader, badData, decoded, undone, contentsTest}
+use Rattle.filter_format.specs.Undo.{Result, making, tested, layerTest, undoLayer, blockTest, undoFrom}
+use Rattle.filter_format.specs.Encode.{badGiven, badUnits, headerRest, encodedData, encoded, encodeTest, encode, SameFor}
+use Rattle.filter_format.proofs.Wholes.{below-units, bytes-of-units}
+use Rattle.filter_format.proofs.Levels.{length-delta, length-undelta, undelta-delta-bytes, delta-undelta-bytes}
+use Rattle.filter_format.proofs.Narrowing.{widen-narrow, lacking-narrow}
+use Rattle.filter_format.proofs.Following.{unfollow-follow, follow-unfollow}
+use Rattle.filter_format.proofs.Blocks.{Known, known, header-fits, header-right, data-right}
+
+-- every element of a list of bytes is one
+pub byte-at : (l : List ℕ) → Bytes l → (i : ℕ) → getD l i 0 < 256
+byte-at [] y i = omega arith
+byte-at (x ∷ l) y zero = y .0
+byte-at (x ∷ l) y (suc i) = byte-at l (y .1) i
+
+-- what the tests ask of a block b whose filter is f, but for the room, and what undoing gives
+record Opens (f : Filter) (b s : List ℕ) : Type 0 where
+  pub fits : headerLength f ≤ length b
+  pub header : badHeader f b ≡ false
+  pub contents : badData f (drop (headerLength f) b) ≡ false
+  pub gives : decoded f (levelAt b) (followAt b) (drop (headerLength f) b) ≡ s
+
+-- a block of format 64, 65 or 66: its header by the two lengths that there are
+delta-header : (t : Bool) (format level : ℕ) (xs : List ℕ)
+    → (cond t 4 2 ≤ length (format ∷ (level ∷ replicate (cond t 4 2 - 2) 0 ++ xs)))
+    × (ltb (firstNot isZero 2 (cond t 4 2) (format ∷ (level ∷ replicate (cond t 4 2 - 2) 0 ++ xs))) (cond t 4 2) ≡ false)
+    × (drop (cond t 4 2) (format ∷ (level ∷ replicate (cond t 4 2 - 2) 0 ++ xs)) ≡ xs)
+unfolding firstNot run
+delta-header true format level xs = (omega arith, refl, refl)
+delta-header false format level xs = (omega arith, refl, refl)
+
+or-false : (t u : Bool) → t ≡ false → u ≡ false → (t || u) ≡ false
+or-false t u e f = rw (e, f)
+
+module _ (format level : ℕ) (follow s : List ℕ) (y : Bytes s) where
+  block : Filter → List ℕ
+  block f = format ∷ (headerRest f level follow ++ encodedData f level follow s)
+
+  open-delta : (w : ℕ) → IsWidth w → badLevel level ≡ false → notWhole w s ≡ false → Opens (Delta w) (block (Delta w)) s
+  unfolding block headerLength headerRest encodedData badHeader badData decoded
+  open-delta w k l n =
+      let xs = deltaBytes w level s in
+      let h = delta-header (eqb w 4) format level xs in
+      let whole : length s % w ≡ 0 = eqb-true (length s % w) 0 (not-false _ n) in
+      let same : length xs ≡ length s = length-delta w (k .0) s whole level in
+      record {
+        fits = h .0;
+        header = or-false _ _ l (h .1);
+        contents = rw (h .2, same) n;
+        gives = rw (h .2) (undelta-delta-bytes w (k .0) s whole y level);
+      }
+
+  open-narrow : (w : ℕ) → IsWidth w → notWhole w s ≡ false → Opens (Narrow w) (block (Narrow w)) s
+  unfolding block headerLength headerRest encodedData badHeader badData decoded
+  open-narrow w k n =
+      let whole : length s % w ≡ 0 = eqb-true (length s % w) 0 (not-false _ n) in
+      let small = below-units w s whole y in
+      record {
+        fits = omega arith;
+        header = refl;
+        contents = rw (lacking-narrow w (unitsOf w s) (k .0) small);
+        gives = widen-narrow w (unitsOf w s) (k .0) small ∙ bytes-of-units w s whole y;
+      }
+
+  open-follow : length follow ≡ 256 → Bytes follow → Opens Follow (block Follow) s
+  unfolding block headerLength headerRest encodedData badHeader badData decoded
+  open-follow n z =
+      let xs = followed follow s in
+      let front : take 256 (follow ++ xs) ≡ follow = take-at follow xs 256 n in
+      let back : drop 256 (follow ++ xs) ≡ xs = drop-at follow xs 256 n in
+      let long : length (follow ++ xs) ≡ length follow + length xs = length-append follow xs in
+      record {
+        fits = omega arith;
+        header = refl;
+        contents = refl;
+        gives = rw (front, back) (unfollow-follow follow (byte-at follow z) s y);
+      }
+
+  -- every filter
+  opened : (f : Filter) → Known f → isFilter f ≡ true → badGiven f level follow ≡ false → badUnits f s ≡ false → Bytes follow → Opens f (block f) s
+  unfolding badGiven badUnits
+  opened Raw k i g u z = let e : _≡_ {A = ℕ} 0 1 = cc in absurd (omega arith)
+  opened (Delta w) k i g u z = open-delta w k g u
+  opened (Narrow w) k i g u z = open-narrow w (k .0) u
+  opened Follow k i g u z = open-follow (eqb-true (length follow) 256 (not-false _ g)) z
+  opened Other k i g u z = let e : _≡_ {A = ℕ} 0 1 = cc in absurd (omega arith)
+
+-- a test's result
+pub tested-ok : (a : Answer) (bytes : List ℕ) → tested a bytes .answer ≡ Accepted → a ≡ Accepted
+unfolding acceptedOr
+tested-ok Accepted bytes e = refl
+tested-ok (Refused n p) bytes e = e
+
+pub tested-makes : (a : Answer) (bytes : List ℕ) → a ≡ Accepted → tested a bytes ≡ making bytes
+unfolding acceptedOr
+tested-makes a bytes e = rw e
+
+-- an opened block passes the tests if there is room
+module _ (room : ℕ) (b s : List ℕ) (o : Opens (filterAt b) b s) where
+  undone-is : undone b ≡ s
+  unfolding undone
+  undone-is = o .gives
+
+  contents-ok : length s ≤ room → contentsTest room b ≡ Accepted
+  unfolding contentsTest
+  contents-ok h =
+      both-ok _ _ (ok-under (length b) (headerLength (filterAt b)) _ _ (o .fits))
+      (both-ok _ _ (ok-when _ _ _ (o .header)) (both-ok _ _ (ok-when _ _ _ (o .contents)) (ok-under room (length (undone b)) _ _ (rw undone-is h))))
+
+-- the tests of encoding, one by one
+module _ (room format level : ℕ) (follow s : List ℕ) (ok : encodeTest room format level follow s ≡ Accepted) where
+  is-filter : isFilter (filterOf format) ≡ true
+  unfolding encodeTest
+  is-filter = not-false _ (when-ok _ _ _ (first-ok _ _ ok))
+
+  encoded-opens : Bytes s → Bytes follow → Opens (filterOf format) (encoded format level follow s) s
+  unfolding encodeTest encoded block
+  encoded-opens y z =
+      opened format level follow s y (filterOf format) (known format) is-filter (when-ok _ _ _ (first-ok _ _ (second-ok _ _ ok)))
+      (when-ok _ _ _ (first-ok _ _ (second-ok _ _ (second-ok _ _ ok)))) z
+
+filter-encoded : (format level : ℕ) (follow s : List ℕ) → filterAt (encoded format level follow s) ≡ filterOf format
+unfolding encoded
+filter-encoded format level follow s = refl
+
+nonempty : (x : ℕ) (l : List ℕ) → eqb (length (x ∷ l)) 0 ≡ false
+nonempty x l = ne-eqb (suc (length l)) 0 (λ e. omega arith)
+
+some : (format level : ℕ) (follow s : List ℕ) → eqb (length (encoded format level follow s)) 0 ≡ false
+unfolding encoded
+some format level follow s = nonempty format (headerRest (filterOf format) level follow ++ encodedData (filterOf format) level follow s)
+
+raw-none : (f : Filter) → isFilter f ≡ true → isRaw f ≡ false
+raw-none Raw i = let e : _≡_ {A = ℕ} 0 1 = cc in absurd (omega arith)
+raw-none (Delta w) i = refl
+raw-none (Narrow w) i = refl
+raw-none Follow i = refl
+raw-none Other i = refl
+
+module _ (room room' format level : ℕ) (follow s : List ℕ) (y : Bytes s) (z : Bytes follow)
+    (ok : encode room format level follow s .answer ≡ Accepted) (fits : length s ≤ room') where
+  layer : List ℕ
+  layer = encoded format level follow s
+
+  accepted : encodeTest room format level follow s ≡ Accepted
+  unfolding encode
+  accepted = tested-ok _ _ ok
+
+  made : encode room format level follow s .bytes ≡ layer
+  unfolding encode layer
+  made = ap (λ (r : Result). r .bytes) (tested-makes _ (encoded format level follow s) accepted)
+
+  opens : Opens (filterAt layer) layer s
+  unfolding layer
+  opens = subst (λ (f : Filter). Opens f layer s) (sym (filter-encoded format level follow s)) (encoded-opens room format level follow s accepted y z)
+
+  filters : isFilter (filterAt layer) ≡ true
+  unfolding layer
+  filters = ap isFilter (filter-encoded format level follow s) ∙ is-filter room format level follow s accepted
+
+  -- "Undo after encode returns the data, both of one layer and with room enough"
+  pub undo-after-encode : undoLayer room' (encode room format level follow s .bytes) ≡ making s
+  unfolding undoLayer layerTest layer
+  undo-after-encode =
+      rw made
+      (tested-makes _ (undone layer)
+      (both-ok _ _ (ok-when _ _ _ (some format level follow s)) (both-ok _ _ (ok-when _ _ _ (ap not filters)) (contents-ok room' layer s opens fits)))
+      ∙ ap making (undone-is room' layer s opens))
+
+  -- a layer of a chain: the block within it is what is undone next
+  pub chain-after-encode : (left : ℕ) → undoFrom (suc left) room' (encode room format level follow s .bytes) ≡ undoFrom left room' s
+  unfolding undoFrom blockTest acceptedOr layer
+  chain-after-encode left =
+      let raw = raw-none (filterAt layer) filters in
+      let more : eqb (suc left) 0 ≡ false = ne-eqb (suc left) 0 (λ e. omega arith) in
+      let test : blockTest (suc left) room' layer ≡ Accepted =
+      both-ok _ _ (ok-when _ _ _ (some format level follow s))
+      (both-ok _ _ (ok-when _ _ _ (rw (raw, filters))) (both-ok _ _ (ok-when _ _ _ (rw (filters, more))) (contents-ok room' layer s opens fits))) in
+      rw (made, test, raw) (ap (undoFrom left room') (undone-is room' layer s opens))
+
+-- a header of format 64, 65 or 66 that was accepted has its zeros
+zeros : (x y : ℕ) (t u : Bool) → eqb x 0 ≡ t → eqb y 0 ≡ u → ltb (2 + oneMore t (oneMore u 0)) 4 ≡ false → (x ≡ 0) × (y ≡ 0)
+zeros x y true true e f h = (eqb-true x 0 e, eqb-true y 0 f)
+zeros x y true false e f h = let k = ltb-false 3 4 h in absurd (omega arith)
+zeros x y false u e f h = let k = ltb-false 2 4 h in absurd (omega arith)
+
+delta-block : (t : Bool) (b : List ℕ) → cond t 4 2 ≤ length b → ltb (firstNot isZero 2 (cond t 4 2) b) (cond t 4 2) ≡ false
+    → getD b 0 0 ∷ (getD b 1 0 ∷ replicate (cond t 4 2 - 2) 0 ++ drop (cond t 4 2) b) ≡ b
+unfolding firstNot run
+delta-block false [] h z = absurd (omega arith)
+delta-block false (x ∷ []) h z = absurd (omega arith)
+delta-block false (x ∷ y ∷ r) h z = refl
+delta-block true [] h z = absurd (omega arith)
+delta-block true (x ∷ []) h z = absurd (omega arith)
+delta-block true (x ∷ y ∷ []) h z = absurd (omega arith)
+delta-block true (x ∷ y ∷ v ∷ []) h z = absurd (omega arith)
+delta-block true (x ∷ y ∷ v ∷ u ∷ r) h z = let k = zeros v u (eqb v 0) (eqb u 0) refl refl z in rw (k .0, k .1)
+
+or-left : (t u : Bool) → (t || u) ≡ false → t ≡ false
+or-left false u e = refl
+or-left true u e = e
+
+or-right : (t u : Bool) → (t || u) ≡ false → u ≡ false
+or-right false u e = e
+or-right true u e = let n : _≡_ {A = ℕ} 0 1 = cc in absurd (omega arith)
+
+-- what encoding asks, and what it makes, of a block's data again
+record Again (f : Filter) (b : List ℕ) (level : ℕ) (follow s : List ℕ) : Type 0 where
+  pub filter : isFilter f ≡ true
+  pub given : badGiven f level follow ≡ false
+  pub units : badUnits f s ≡ false
+  pub block-is : getD b 0 0 ∷ (headerRest f level follow ++ encodedData f level follow s) ≡ b
+
+module _ (b : List ℕ) (y : Bytes b) (level : ℕ) (follow : List ℕ) where
+  again-delta : (w : ℕ) → IsWidth w → headerLength (Delta w) ≤ length b → badHeader (Delta w) b ≡ false → badData (Delta w) (drop (headerLength (Delta w)) b) ≡ false
+      → level ≡ levelAt b → Again (Delta w) b level follow (undeltaBytes w level (drop (headerLength (Delta w)) b))
+  unfolding headerLength badHeader badData badGiven badUnits headerRest encodedData
+  again-delta w k h e n l =
+      let xs = drop (headerLength (Delta w)) b in
+      let whole : length xs % w ≡ 0 = eqb-true (length xs % w) 0 (not-false _ n) in
+      let same : length (undeltaBytes w level xs) ≡ length xs = length-undelta w (k .0) xs whole level in
+      record {
+        filter = refl;
+        given = rw l (or-left (badLevel (levelAt b)) _ e);
+        units = rw same n;
+        block-is =
+            rw (delta-undelta-bytes w (k .0) xs whole (bytes-drop (headerLength (Delta w)) b y) level)
+            (rw l (delta-block (eqb w 4) b h (or-right (badLevel (levelAt b)) _ e)));
+      }
+
+  again-follow : headerLength Follow ≤ length b → follow ≡ followAt b → Again Follow b level follow (unfollowed follow (drop 257 b))
+  unfolding headerLength badGiven badUnits headerRest encodedData
+  again-follow h l =
+      let n : length follow ≡ 256 = ap length l ∙ length-part 1 256 b h in
+      let z : Bytes follow = subst Bytes (sym l) (bytes-part 1 256 b y) in
+      record {
+        filter = refl;
+        given = rw n;
+        units = refl;
+        block-is = rw (follow-unfollow follow (byte-at follow z) (drop 257 b) (bytes-drop 257 b y)) (rw l (follow-block b h));
+      }
+    where
+      follow-block : (c : List ℕ) → 257 ≤ length c → getD c 0 0 ∷ (part 1 256 c ++ drop 257 c) ≡ c
+      follow-block [] k = absurd (omega arith)
+      follow-block (x ∷ r) k = ap (λ (t : List ℕ). x ∷ t) (take-append-drop 256 r)
+
+  again : (f : Filter) → Known f → headerLength f ≤ length b → badHeader f b ≡ false → badData f (drop (headerLength f) b) ≡ false → SameFor f b level follow
+      → Again f b level follow (decoded f (levelAt b) (followAt b) (drop (headerLength f) b))
+  unfolding decoded headerLength
+  again Raw k h e n l = absurd l
+  again (Delta w) k h e n l = rw (← l) (again-delta w k h e n l)
+  again (Narrow w) k h e n l = absurd l
+  again Follow k h e n l = rw (← l) (again-follow h l)
+  again Other k h e n l = absurd l
+
+-- "Encode after undo returns the block for 64, 65, 66, 72 (same level and follow bytes)"
+pub encode-after-undo : (room room' level : ℕ) (follow b : List ℕ) → Bytes b → undoLayer room b .answer ≡ Accepted → SameFor (filterAt b) b level follow → length b ≤ room'
+    → encode room' (getD b 0 0) level follow (undoLayer room b .bytes) ≡ making b
+unfolding undoLayer layerTest encode encodeTest encoded undone
+encode-after-undo room room' level follow b y ok same fits =
+    let test = tested-ok _ _ ok in
+    let contents : contentsTest room b ≡ Accepted = second-ok _ _ (second-ok _ _ test) in
+    let a = again b y level follow (filterAt b) (known (getD b 0 0)) (header-fits room b contents) (header-right room b contents) (data-right room b contents) same in
+    let accepted =
+    both-ok _ _ (ok-when _ _ _ (ap not (a .filter)))
+    (both-ok _ _ (ok-when _ _ _ (a .given)) (both-ok _ _ (ok-when _ _ _ (a .units)) (ok-under room' (length (encoded (getD b 0 0) level follow (undone b))) _ _ (subst (λ (l : List ℕ). length l ≤ room') (sym (a .block-is)) fits)))) in
+    rw (tested-makes (layerTest room b) (undone b) test) (tested-makes _ _ accepted ∙ ap making (a .block-is))

@@ -60,20 +60,20 @@ known format =
     pick false f g h k = k
 
 -- the tests of the contents, one by one
-module _ (room : ℕ) (b : List ℕ) (ok : contentsTest room b ≡ Accepted) where
-  pub header-fits : headerLength (filterAt b) ≤ length b
+module _ (f : Filter) (room : ℕ) (b : List ℕ) (ok : contentsTest f room b ≡ Accepted) where
+  pub header-fits : headerLength f ≤ length b
   unfolding contentsTest
   header-fits = under-ok _ _ _ _ (first-ok _ _ ok)
 
-  pub header-right : badHeader (filterAt b) b ≡ false
+  pub header-right : badHeader f b ≡ false
   unfolding contentsTest
   header-right = when-ok _ _ _ (first-ok _ _ (second-ok _ _ ok))
 
-  pub data-right : badData (filterAt b) (dataAt b) ≡ false
+  pub data-right : badData f (dataAt f b) ≡ false
   unfolding contentsTest
   data-right = when-ok _ _ _ (first-ok _ _ (second-ok _ _ (second-ok _ _ ok)))
 
-  pub undone-fits : length (undone b) ≤ room
+  pub undone-fits : length (undone f b) ≤ room
   unfolding contentsTest
   undone-fits = under-ok _ _ _ _ (second-ok _ _ (second-ok _ _ (second-ok _ _ ok)))
 

@@ -43,8 +43,8 @@ byte-at (x ∷ l) y (suc i) = byte-at l (y .1) i
 record Opens (f : Filter) (b s : List ℕ) : Type 0 where
   pub fits : headerLength f ≤ length b
   pub header : badHeader f b ≡ false
-  pub contents : badData f (drop (headerLength f) b) ≡ false
-  pub gives : decoded f (levelAt b) (followAt b) (drop (headerLength f) b) ≡ s
+  pub contents : badData f (dataAt f b) ≡ false
+  pub gives : decoded f (levelAt b) (followAt b) (dataAt f b) ≡ s
 
 -- a block of format 64, 65 or 66: its header by the two lengths that there are
 delta-header : (t : Bool) (format level : ℕ) (xs : List ℕ)
@@ -123,15 +123,15 @@ tested-makes a bytes e = rw e
 
 -- an opened block passes the tests if there is room
 module _ (room : ℕ) (b s : List ℕ) (o : Opens (filterAt b) b s) where
-  undone-is : undone b ≡ s
+  undone-is : undone (filterAt b) b ≡ s
   unfolding undone
   undone-is = o .gives
 
-  contents-ok : length s ≤ room → contentsTest room b ≡ Accepted
+  contents-ok : length s ≤ room → contentsTest (filterAt b) room b ≡ Accepted
   unfolding contentsTest
   contents-ok h =
       both-ok _ _ (ok-under (length b) (headerLength (filterAt b)) _ _ (o .fits))
-      (both-ok _ _ (ok-when _ _ _ (o .header)) (both-ok _ _ (ok-when _ _ _ (o .contents)) (ok-under room (length (undone b)) _ _ (rw undone-is h))))
+      (both-ok _ _ (ok-when _ _ _ (o .header)) (both-ok _ _ (ok-when _ _ _ (o .contents)) (ok-under room (length (undone (filterAt b) b)) _ _ (rw undone-is h))))
 
 -- the tests of encoding, one by one
 module _ (room format level : ℕ) (follow s : List ℕ) (ok : encodeTest room format level follow s ≡ Accepted) where
@@ -189,7 +189,7 @@ module _ (room room' format level : ℕ) (follow s : List ℕ) (y : Bytes s) (z 
   unfolding undoLayer layerTest layer
   undo-after-encode =
       rw made
-      (tested-makes _ (undone layer)
+      (tested-makes _ (undone (filterAt layer) layer)
       (both-ok _ _ (ok-when _ _ _ (some format level follow s)) (both-ok _ _ (ok-when _ _ _ (ap not filters)) (contents-ok room' layer s opens fits)))
       ∙ ap making (undone-is room' layer s opens))
 
@@ -270,8 +270,8 @@ module _ (b : List ℕ) (y : Bytes b) (level : ℕ) (follow : List ℕ) where
       follow-block [] k = absurd (omega arith)
       follow-block (x ∷ r) k = ap (λ (t : List ℕ). x ∷ t) (take-append-drop 256 r)
 
-  again : (f : Filter) → Known f → headerLength f ≤ length b → badHeader f b ≡ false → badData f (drop (headerLength f) b) ≡ false → SameFor f b level follow
-      → Again f b level follow (decoded f (levelAt b) (followAt b) (drop (headerLength f) b))
+  again : (f : Filter) → Known f → headerLength f ≤ length b → badHeader f b ≡ false → badData f (dataAt f b) ≡ false → SameFor f b level follow
+      → Again f b level follow (decoded f (levelAt b) (followAt b) (dataAt f b))
   unfolding decoded headerLength
   again Raw k h e n l = absurd l
   again (Delta w) k h e n l = rw (← l) (again-delta w k h e n l)
@@ -285,9 +285,9 @@ pub encode-after-undo : (room room' level : ℕ) (follow b : List ℕ) → Bytes
 unfolding undoLayer layerTest encode encodeTest encoded undone
 encode-after-undo room room' level follow b y ok same fits =
     let test = tested-ok _ _ ok in
-    let contents : contentsTest room b ≡ Accepted = second-ok _ _ (second-ok _ _ test) in
-    let a = again b y level follow (filterAt b) (known (getD b 0 0)) (header-fits room b contents) (header-right room b contents) (data-right room b contents) same in
+    let contents : contentsTest (filterAt b) room b ≡ Accepted = second-ok _ _ (second-ok _ _ test) in
+    let a = again b y level follow (filterAt b) (known (getD b 0 0)) (header-fits (filterAt b) room b contents) (header-right (filterAt b) room b contents) (data-right (filterAt b) room b contents) same in
     let accepted =
     both-ok _ _ (ok-when _ _ _ (ap not (a .filter)))
-    (both-ok _ _ (ok-when _ _ _ (a .given)) (both-ok _ _ (ok-when _ _ _ (a .units)) (ok-under room' (length (encoded (getD b 0 0) level follow (undone b))) _ _ (subst (λ (l : List ℕ). length l ≤ room') (sym (a .block-is)) fits)))) in
-    rw (tested-makes (layerTest room b) (undone b) test) (tested-makes _ _ accepted ∙ ap making (a .block-is))
+    (both-ok _ _ (ok-when _ _ _ (a .given)) (both-ok _ _ (ok-when _ _ _ (a .units)) (ok-under room' (length (encoded (getD b 0 0) level follow (undone (filterAt b) b))) _ _ (subst (λ (l : List ℕ). length l ≤ room') (sym (a .block-is)) fits)))) in
+    rw (tested-makes (layerTest room b) (undone (filterAt b) b) test) (tested-makes _ _ accepted ∙ ap making (a .block-is))

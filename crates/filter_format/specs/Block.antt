@@ -59,8 +59,8 @@ levelAt b = getD b 1 0
 abbrev pub followAt : List ℕ → List ℕ
 followAt b = part 1 256 b
 
-abbrev pub dataAt : List ℕ → List ℕ
-dataAt b = drop (headerLength (filterAt b)) b
+abbrev pub dataAt : Filter → List ℕ → List ℕ
+dataAt f b = drop (headerLength f) b
 
 -- "level byte, 1 to 3 here"
 abbrev pub badLevel : ℕ → Bool
@@ -90,14 +90,14 @@ decoded (Narrow w) level follow s = widen w 0 s
 decoded Follow level follow s = unfollowed follow s
 decoded Other level follow s = []
 
--- what the block gives: "0: the rest is the data"; "Undoing a filter gives another block"
-unfoldable pub undone : List ℕ → List ℕ
-undone b = decoded (filterAt b) (levelAt b) (followAt b) (dataAt b)
+-- what a block of the filter f gives: "0: the rest is the data"; "Undoing a filter gives another block"
+unfoldable pub undone : Filter → List ℕ → List ℕ
+undone f b = decoded f (levelAt b) (followAt b) (dataAt f b)
 
 -- "40 header cut short; 42 level or zeros wrong; 43 data not whole units, or 128 with too few bytes after it; 26 a result above the room. Place 0"
-unfoldable pub contentsTest : ℕ → List ℕ → Answer
-contentsTest room b =
-    when (ltb (length b) (headerLength (filterAt b))) 40 0
-    then when (badHeader (filterAt b) b) 42 0
-    then when (badData (filterAt b) (dataAt b)) 43 0
-    then when (ltb room (length (undone b))) 26 0
+unfoldable pub contentsTest : Filter → ℕ → List ℕ → Answer
+contentsTest f room b =
+    when (ltb (length b) (headerLength f)) 40 0
+    then when (badHeader f b) 42 0
+    then when (badData f (dataAt f b)) 43 0
+    then when (ltb room (length (undone f b))) 26 0

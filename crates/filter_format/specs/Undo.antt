@@ -49,14 +49,14 @@ blockTest left room b =
     when (eqb (length b) 0) 40 0
     then when (not (isRaw (filterAt b)) && not (isFilter (filterAt b))) 41 0
     then when (isFilter (filterAt b) && eqb left 0) 44 0
-    then contentsTest room b
+    then contentsTest (filterAt b) room b
 
 -- "Undoing a filter gives another block, until format 0. An opened layer hands its block to the choice of format, which opens the next layer"
 unfoldable pub undoFrom : ℕ → ℕ → List ℕ → Result
-undoFrom zero room b = tested (blockTest 0 room b) (undone b)
+undoFrom zero room b = tested (blockTest 0 room b) (undone (filterAt b) b)
 undoFrom (suc left) room b =
     acceptedOr (blockTest (suc left) room b)
-    (cond (isRaw (filterAt b)) (making (undone b)) (undoFrom left room (undone b)))
+    (cond (isRaw (filterAt b)) (making (undone (filterAt b) b)) (undoFrom left room (undone (filterAt b) b)))
     (refusing (blockTest (suc left) room b))
 
 -- "eight at most"
@@ -72,7 +72,7 @@ unfoldable pub layerTest : ℕ → List ℕ → Answer
 layerTest room b =
     when (eqb (length b) 0) 40 0
     then when (not (isFilter (filterAt b))) 41 0
-    then contentsTest room b
+    then contentsTest (filterAt b) room b
 
 unfoldable pub undoLayer : ℕ → List ℕ → Result
-undoLayer room b = tested (layerTest room b) (undone b)
+undoLayer room b = tested (layerTest room b) (undone (filterAt b) b)

@@ -82,7 +82,7 @@ number-four at l h =
     omega (arith, number-split at 2 2 l h, number-two at l (omega arith), rw e at (number-two (at + 2) l (omega arith)))
 
 -- the k low bytes of v are those of what v leaves at 256 ^ k
-bytesOf-mod : (k v : ℕ) → bytesOf k (v % 256 ^ k) ≡ bytesOf k v
+pub bytesOf-mod : (k v : ℕ) → bytesOf k (v % 256 ^ k) ≡ bytesOf k v
 unfolding bytesOf
 bytesOf-mod zero v = refl
 bytesOf-mod (suc k) v =

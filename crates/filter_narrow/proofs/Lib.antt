@@ -1,0 +1,3 @@
+pub mod Filling
+pub mod Walk
+pub mod Units

@@ -1,0 +1,6 @@
+use borrow.Author.Needs.{needs}
+use Rattle.filter_narrow.proofs.inner.fits_one.Statement.{statement}
+use Rattle.filter_narrow.proofs.inner.fits_one.Tie as tie
+
+pub fits-one-spec : {M : Type 1} → statement M
+fits-one-spec = tie.close (tie.spec (λ c κs. search needs) (λ c. rw (c .least .ensures)))

@@ -1,0 +1,4 @@
+-- `Pass`: one pass along the units. `Loop`: a pass for each level. `Lent`: the part of a buffer that is lent to them.
+pub mod Pass
+pub mod Loop
+pub mod Lent

@@ -1,0 +1,132 @@
+-- A pass along the units of a slice, in place: what is made, and what is to come, are the goal. One turn for every scan. Assumes nothing.
+use mathlib.Core.Path.{_≡_, refl, sym, ap, _∙_}
+use mathlib.Core.List.{List, _++_, append-assoc, append-nil}
+use Prim.Native.Nat.{ℕ, zero, suc, _+_, _*_, _/_, _-_, _%_, _^_, _<_, _≤_}
+use native.Mathlib.Nat.{add-zero, zero-add, mul-suc, mod-eq-of-lt, mod-lt, zero-mod, mod-add-mod, add-mod-right, mod-mod-of-dvd, dvd-of-mod-eq-zero}
+use native.Mathlib.Omega.{arith}
+use borrow.Author.Needs.{needs}
+use lib.ListN.{length, take}
+use lib.Seq.{take-all}
+use Rattle.octets.specs.Parts.{putAt}
+use Rattle.octets.specs.Numbers.{number, bytesOf, unitBytes, unitsAt}
+use Rattle.octets.proofs.Lists.{length-put, take-put, part-after, put-nil}
+use Rattle.octets.proofs.Digits.{length-bytesOf, put-halves}
+use Rattle.filter_format.specs.Units.{IsWidth, range, unitsOf}
+use Rattle.filter_format.specs.Delta.{scan, difference, sum, latest, undeltas, deltas, undeltaBytes, deltaBytes, OneLevelLess}
+use Rattle.filter_format.proofs.Wholes.{range-positive, units-in}
+use Rattle.filter_format.proofs.Levels.{one-level-less}
+
+-- `left` units are to come from `at` on, with p remembered, and they and what is made are the goal
+pub record Mid (o g : ℕ → ℕ → ℕ) (w p left at : ℕ) (s₀ s goal : List ℕ) : Type 0 where
+  pub room : at + w * left ≡ length s
+  pub same : length s ≡ length s₀
+  pub made : take at s ++ unitBytes w (scan o g p (unitsAt w left at s)) ≡ goal
+
+-- what is put before them changes no units
+units-after : (w q : ℕ) (xs s : List ℕ) → q + length xs ≤ length s → (n p : ℕ) → q + length xs ≤ p → unitsAt w n p (putAt q xs s) ≡ unitsAt w n p s
+unfolding unitsAt number
+units-after w q xs s h zero p k = refl
+units-after w q xs s h (suc n) p k = rw (part-after p w q xs s k h, units-after w q xs s h n (p + w) (omega arith))
+
+-- what is put is what v leaves modulo the range
+put-low : (w at v : ℕ) (s : List ℕ) → at ≤ length s → putAt at (bytesOf w v) s ≡ putAt at (bytesOf w (v % range w)) s
+unfolding bytesOf
+put-low w at v s h = sym (rw (add-zero at, put-nil at s, zero-add w) at (put-halves 0 w at v s (rw add-zero h)))
+
+-- the next unit has room
+pub next-fits : (w left at n : ℕ) → at + w * left ≡ n → 0 < left → at + w ≤ n
+next-fits w zero at n e h = absurd (omega arith)
+next-fits w (suc l) at n e h = let k = mul-suc w l in omega arith
+
+module _ (o g : ℕ → ℕ → ℕ) (w p : ℕ) where
+  start : (s : List ℕ) → length s % w ≡ 0 → Mid o g w p (length s / w) 0 s s (unitBytes w (scan o g p (unitsOf w s)))
+  start s whole = record { room = let e = units-in w s whole in omega arith; same = refl; made = refl }
+
+  -- the next unit x is read, and what the scan makes of it is put
+  turn : (q left at x v : ℕ) (s₀ s s' goal : List ℕ) → Mid o g w p left at s₀ s goal → 0 < left → x ≡ number w at s → s' ≡ putAt at (bytesOf w v) s
+      → v % range w ≡ o p x → q ≡ g p x → Mid o g w q (left - 1) (at + w) s₀ s' goal
+  unfolding unitsAt scan unitBytes
+  turn q zero at x v s₀ s s' goal m h ex es ev eq = absurd (omega arith)
+  turn q (suc l) at x v s₀ s s' goal m h ex es ev eq =
+      let xs : List ℕ = bytesOf w (o p x) in
+      let n : length xs ≡ w = length-bytesOf w (o p x) in
+      let fits : at + w ≤ length s = next-fits w (suc l) at (length s) (m .room) h in
+      let inside : at + length xs ≤ length s = rw n fits in
+      let put : s' ≡ putAt at xs s = es ∙ put-low w at v s (omega arith) ∙ ap (λ (k : ℕ). putAt at (bytesOf w k) s) ev in
+      let long : length s' ≡ length s = ap length put ∙ length-put at xs s inside in
+      let one : suc l - 1 ≡ l = omega arith in
+      let k = mul-suc w l in
+      record {
+        room = rw one (omega (arith, k, m .room, long));
+        same = long ∙ m .same;
+        made =
+            rw (one, put, take-put at w xs s n fits, units-after w at xs s inside l (at + w) (rw n (omega arith)), eq)
+            (append-assoc (take at s) xs (unitBytes w (scan o g (g p x) (unitsAt w l (at + w) s))) ∙ rw (← ex) at (m .made));
+      }
+
+  -- nothing is to come
+  done : (left at : ℕ) (s₀ s goal : List ℕ) → Mid o g w p left at s₀ s goal → left ≤ 0 → s ≡ goal
+  unfolding unitsAt scan unitBytes
+  done zero at s₀ s goal m h = sym (append-nil (take at s) ∙ take-all at s (omega (arith, m .room))) ∙ m .made
+  done (suc l) at s₀ s goal m h = absurd (omega arith)
+
+-- the ranges divide that of 32 bits
+divides : (w : ℕ) → IsWidth w → 2 ^ 32 % range w ≡ 0
+divides zero h = absurd (omega arith)
+divides (suc zero) h = refl
+divides (suc (suc zero)) h = refl
+divides (suc (suc (suc zero))) h = absurd (h .2 refl)
+divides (suc (suc (suc (suc zero)))) h = refl
+divides (suc (suc (suc (suc (suc w))))) h = absurd (omega arith)
+
+-- sums and differences at 32 bits, modulo a range m
+sum-seen : (m p x v : ℕ) → 2 ^ 32 % m ≡ 0 → v ≡ (p + x) % 2 ^ 32 → v % m ≡ sum m (p % m) x
+sum-seen m p x v d e = rw e (mod-mod-of-dvd m (p + x) (dvd-of-mod-eq-zero m d) ∙ sym (mod-add-mod p m x))
+
+difference-seen : (m p x v : ℕ) → 2 ^ 32 % m ≡ 0 → p < m → x < m → (v + p) % 2 ^ 32 ≡ x → v % m ≡ difference m p x
+difference-seen m p x v d hp hx e =
+    let k : (v + p) % m ≡ x = sym (mod-mod-of-dvd m (v + p) (dvd-of-mod-eq-zero m d)) ∙ ap (λ (n : ℕ). n % m) e ∙ mod-eq-of-lt hx in
+    sym (ap (λ (n : ℕ). (n + (m - p)) % m) (sym k) ∙ mod-add-mod (v + p) m (m - p) ∙ ap (λ (n : ℕ). n % m) (omega arith) ∙ add-mod-right v m)
+
+-- the pass that undoes: the code's p is the sum at 32 bits
+abbrev pub Undoing : ℕ → ℕ → ℕ → ℕ → List ℕ → List ℕ → Type 0
+Undoing w p left at s₀ s = Mid (sum (range w)) (sum (range w)) w (p % range w) left at s₀ s (undeltaBytes w 1 s₀)
+
+-- the pass that does: p is the unit before
+abbrev pub Doing : ℕ → ℕ → ℕ → ℕ → List ℕ → List ℕ → Type 0
+Doing w p left at s₀ s = Mid (difference (range w)) latest w p left at s₀ s (deltaBytes w 1 s₀) × (p < range w)
+
+module _ (w : ℕ) (s₀ : List ℕ) where
+  pub undo-start : length s₀ % w ≡ 0 → Undoing w 0 (length s₀ / w) 0 s₀ s₀
+  unfolding undeltaBytes undeltas
+  undo-start whole = rw (zero-mod (range w)) (start (sum (range w)) (sum (range w)) w 0 s₀ whole)
+
+  pub do-start : length s₀ % w ≡ 0 → Doing w 0 (length s₀ / w) 0 s₀ s₀
+  unfolding deltaBytes deltas
+  do-start whole = (start (difference (range w)) latest w 0 s₀ whole, range-positive w)
+
+  module _ (p left at : ℕ) (s : List ℕ) where
+    pub undo-turn : IsWidth w → Undoing w p left at s₀ s → 0 < left → (x v : ℕ) (s' : List ℕ) → x ≡ number w at s → v ≡ (p + x) % 2 ^ 32
+        → s' ≡ putAt at (bytesOf w v) s → Undoing w v (left - 1) (at + w) s₀ s'
+    undo-turn i m h x v s' ex ev es =
+        let r : ℕ = range w in
+        let seen : v % r ≡ sum r (p % r) x = sum-seen r p x v (divides w i) ev in
+        turn (sum r) (sum r) w (p % r) (v % r) left at x v s₀ s s' (undeltaBytes w 1 s₀) m h ex es seen seen
+
+    pub do-turn : IsWidth w → Doing w p left at s₀ s → 0 < left → (x v : ℕ) (s' : List ℕ) → x ≡ number w at s → x < range w → (v + p) % 2 ^ 32 ≡ x
+        → s' ≡ putAt at (bytesOf w v) s → Doing w x (left - 1) (at + w) s₀ s'
+    do-turn i m h x v s' ex hx ev es =
+        let r : ℕ = range w in
+        let seen : v % r ≡ difference r p x = difference-seen r p x v (divides w i) (m .1) hx ev in
+        (turn (difference r) latest w p x left at x v s₀ s s' (deltaBytes w 1 s₀) (m .0) h ex es seen refl, hx)
+
+    pub undo-done : Undoing w p left at s₀ s → left ≤ 0 → 0 < w → (s ≡ undeltaBytes w 1 s₀) × OneLevelLess w s₀ s
+    undo-done m h positive =
+        let e : s ≡ undeltaBytes w 1 s₀ = done (sum (range w)) (sum (range w)) w (p % range w) left at s₀ s (undeltaBytes w 1 s₀) m h in
+        (e, rw e (one-level-less w positive s₀))
+
+    pub do-done : Doing w p left at s₀ s → left ≤ 0 → s ≡ deltaBytes w 1 s₀
+    do-done m h = done (difference (range w)) latest w p left at s₀ s (deltaBytes w 1 s₀) (m .0) h
+
+-- what `search` needs for all but a turn
+pub ruleset passes = (undo-start, do-start, do-done, next-fits, needs)

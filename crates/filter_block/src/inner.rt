@@ -1,10 +1,17 @@
 // What a filter is asked and told here comes from a format byte, and a block is undone only after its tests.
 ghost use mathlib.Core.Path.{_≡_};
-ghost use Prim.Native.Nat.{_≤_};
-ghost use mathlib.Core.Bool.{false};
+ghost use Prim.Native.Nat.{_*_, _<_, _≤_};
+ghost use lib.Dec.{ltb};
 ghost use lib.ListN.{length};
-ghost use Rattle.filter_format.specs.Block.{filterOf, filterAt, isRaw, isFilter, headerLength, badLevel, badHeader};
+ghost use Rattle.answers.specs.Answer.{when};
+ghost use Rattle.filter_format.specs.declared.Filter.the-variants.{Delta, Narrow};
+ghost use Rattle.filter_format.specs.Units.{IsWidth};
+ghost use Rattle.filter_format.specs.Block.{filterOf, Known, filterAt, isRaw, isFilter, headerLength, badLevel, badHeader, contentsTest};
+ghost use Rattle.filter_block.specs.Tests.{dataTest};
+use answers::Answer;
 use filter_format::Filter;
+use filter_narrow::inner::count_units;
+use filter_narrow::Counted;
 use octets::first_not;
 use octets::wide;
 use octets::ByteTest;
@@ -91,18 +98,93 @@ pub fn bad_level(level: usize) -> bool
 }
 
 // Whether the level or the zeros behind it are wrong.
+fn bad_delta_header(block: &[u8], w: usize) -> bool
+    requires { ⌜ headerLength (Delta w) ≤ length (now block) ⌝ }
+    ensures { λ r. ⌜ r ≡ badHeader (Delta w) (now (block .entry)) ⌝ }
+{
+    let start = header_length(Filter::Delta(w));
+    bad_level(wide(block[1])) | (first_not(ByteTest::Zero, block, 2, start) < start)
+}
+
 fn bad_header(filter: Filter, block: &[u8]) -> bool
     requires { ⌜ headerLength filter ≤ length (now block) ⌝ }
     ensures { λ r. ⌜ r ≡ badHeader filter (now (block .entry)) ⌝ }
 {
     match filter {
         Filter::Raw => false,
-        Filter::Delta(w) => {
-            let start = header_length(filter);
-            bad_level(wide(block[1])) | (first_not(ByteTest::Zero, block, 2, start) < start)
-        }
+        Filter::Delta(w) => bad_delta_header(block, w),
         Filter::Narrow(w) => false,
         Filter::Follow => false,
         Filter::Other => false,
     }
+}
+
+fn room_test(n: usize, room: usize) -> Answer
+    ensures { λ r. ⌜ r ≡ when (ltb room n) 26 0 ⌝ }
+{
+    if room < n {
+        return Answer::Refused(26, 0);
+    }
+    Answer::Accepted
+}
+
+fn delta_test(block: &[u8], w: usize, room: usize) -> Answer
+    requires { ⌜ (IsWidth w) × (headerLength (Delta w) ≤ length (now block)) ⌝ }
+    ensures { λ r. ⌜ r ≡ dataTest (Delta w) room (now (block .entry)) ⌝ }
+{
+    let n = block.len() - header_length(Filter::Delta(w));
+    if n % w != 0 {
+        return Answer::Refused(43, 0);
+    }
+    room_test(n, room)
+}
+
+// The units are counted, not their bytes, whose number could exceed 64 bits.
+fn narrow_test(block: &[u8], w: usize, room: usize) -> Answer
+    requires { ⌜ (IsWidth w) × (1 ≤ length (now block)) ⌝ }
+    ensures { λ r. ⌜ r ≡ dataTest (Narrow w) room (now (block .entry)) ⌝ }
+{
+    let counted = count_units(&block[1..], w);
+    match counted {
+        Counted::Lacking => Answer::Refused(43, 0),
+        Counted::Units(n) => unit_test(n, w, room),
+    }
+}
+
+fn unit_test(n: usize, w: usize, room: usize) -> Answer
+    requires { ⌜ 0 < w ⌝ }
+    ensures { λ r. ⌜ r ≡ when (ltb room (n * w)) 26 0 ⌝ }
+{
+    if room / w < n {
+        return Answer::Refused(26, 0);
+    }
+    Answer::Accepted
+}
+
+// The tests of the data and of the room.
+fn data_test(filter: Filter, block: &[u8], room: usize) -> Answer
+    requires { ⌜ (Known filter) × (headerLength filter ≤ length (now block)) ⌝ }
+    ensures { λ r. ⌜ r ≡ dataTest filter room (now (block .entry)) ⌝ }
+{
+    match filter {
+        Filter::Raw => room_test(block.len() - 1, room),
+        Filter::Delta(w) => delta_test(block, w, room),
+        Filter::Narrow(w) => narrow_test(block, w, room),
+        Filter::Follow => room_test(block.len() - 257, room),
+        Filter::Other => Answer::Accepted,
+    }
+}
+
+// The tests of a block that has a format byte, from its header on.
+pub fn contents_test(filter: Filter, block: &[u8], room: usize) -> Answer
+    requires { ⌜ Known filter ⌝ }
+    ensures { λ r. ⌜ r ≡ contentsTest filter room (now (block .entry)) ⌝ }
+{
+    if block.len() < header_length(filter) {
+        return Answer::Refused(40, 0);
+    }
+    if bad_header(filter, block) {
+        return Answer::Refused(42, 0);
+    }
+    data_test(filter, block, room)
 }

@@ -18,18 +18,10 @@ use Rattle.filter_format.specs.Units.{IsWidth}
 use Rattle.filter_format.specs.Delta.{scan, undeltaBytes}
 use Rattle.filter_format.specs.Narrow.{widen, lacking, begun}
 use Rattle.filter_format.specs.Follow.{predicted, followed, unfollowed}
-use Rattle.filter_format.specs.Block.{filterOf, filterAt, headerLength, levelAt, followAt, dataAt, badHeader, badData, decoded, undone, contentsTest}
+use Rattle.filter_format.specs.Block.{filterOf, Known, filterAt, headerLength, levelAt, followAt, dataAt, badHeader, badData, decoded, undone, contentsTest}
 use Rattle.filter_format.proofs.Scans.{length-scan}
 use Rattle.filter_format.proofs.Levels.{length-undelta}
 use Rattle.filter_format.proofs.Narrowing.{length-widen}
-
--- a filter that a format stands for has the width of a unit
-abbrev pub Known : Filter → Type 0
-Known Raw = Unit {0}
-Known (Delta w) = IsWidth w
-Known (Narrow w) = (IsWidth w) × (2 ≤ w)
-Known Follow = Unit {0}
-Known Other = Unit {0}
 
 width : (w : ℕ) → 0 < w → w ≤ 4 → (w ≡ 3 → ⊥) → IsWidth w
 width w a b c = (a, b, c)

@@ -24,14 +24,14 @@ use Rattle.filter_format.specs.Units.{IsWidth, unitsOf, notWhole}
 use Rattle.filter_format.specs.Delta.{deltaBytes, undeltaBytes}
 use Rattle.filter_format.specs.Narrow.{narrow, widen, lacking}
 use Rattle.filter_format.specs.Follow.{followed, unfollowed}
-use Rattle.filter_format.specs.Block.{filterOf, filterAt, isRaw, isFilter, headerLength, levelAt, followAt, dataAt, badLevel, badHeader, badData, decoded, undone, contentsTest}
+use Rattle.filter_format.specs.Block.{filterOf, Known, filterAt, isRaw, isFilter, headerLength, levelAt, followAt, dataAt, badLevel, badHeader, badData, decoded, undone, contentsTest}
 use Rattle.filter_format.specs.Undo.{Result, making, tested, layerTest, undoLayer, blockTest, undoFrom}
 use Rattle.filter_format.specs.Encode.{badGiven, badUnits, headerRest, encodedData, encoded, encodeTest, encode, SameFor}
 use Rattle.filter_format.proofs.Wholes.{below-units, bytes-of-units}
 use Rattle.filter_format.proofs.Levels.{length-delta, length-undelta, undelta-delta-bytes, delta-undelta-bytes}
 use Rattle.filter_format.proofs.Narrowing.{widen-narrow, lacking-narrow}
 use Rattle.filter_format.proofs.Following.{unfollow-follow, follow-unfollow}
-use Rattle.filter_format.proofs.Blocks.{Known, known, header-fits, header-right, data-right}
+use Rattle.filter_format.proofs.Blocks.{known, header-fits, header-right, data-right}
 
 -- every element of a list of bytes is one
 pub byte-at : (l : List ℕ) → Bytes l → (i : ℕ) → getD l i 0 < 256

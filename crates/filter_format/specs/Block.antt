@@ -1,5 +1,5 @@
 -- A block: its format, its header, its data, and what undoing its filter gives. Assumes nothing: these are definitions.
-use Prim.Native.Nat.{ℕ}
+use Prim.Native.Nat.{ℕ, _≤_}
 use mathlib.Core.Bool.{Bool, true, false, cond, not, _&&_, _||_}
 use mathlib.Core.List.{List, [], _∷_}
 use lib.ListN.{length, drop, getD}
@@ -10,7 +10,7 @@ use Rattle.answers.specs.declared.Answer.{Answer}
 use Rattle.answers.specs.Answer.{when, _then_}
 use Rattle.filter_format.specs.declared.Filter.{Filter}
 use Rattle.filter_format.specs.declared.Filter.the-variants.{Raw, Delta, Narrow, Follow, Other}
-use Rattle.filter_format.specs.Units.{notWhole}
+use Rattle.filter_format.specs.Units.{IsWidth, notWhole}
 use Rattle.filter_format.specs.Delta.{undeltaBytes}
 use Rattle.filter_format.specs.Narrow.{widen, lacking}
 use Rattle.filter_format.specs.Follow.{unfollowed}
@@ -25,6 +25,14 @@ filterOf format =
     (cond (eqb format 70) (Narrow 2)
     (cond (eqb format 71) (Narrow 4)
     (cond (eqb format 72) Follow Other))))))
+
+-- what holds of the filter that a format stands for: its units have a width
+abbrev pub Known : Filter → Type 0
+Known Raw = Unit {0}
+Known (Delta w) = IsWidth w
+Known (Narrow w) = (IsWidth w) × (2 ≤ w)
+Known Follow = Unit {0}
+Known Other = Unit {0}
 
 -- "Byte 0 is the format"
 abbrev pub filterAt : List ℕ → Filter

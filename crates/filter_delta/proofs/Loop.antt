@@ -8,7 +8,7 @@ use Rattle.octets.specs.Numbers.{Bytes}
 use Rattle.filter_format.specs.Delta.{undeltaBytes, deltaBytes}
 use Rattle.filter_format.proofs.Levels.{undelta-next, delta-next, undelta-none, delta-none}
 
--- s₀ are the data, f k of a list is it with k levels done
+-- f k makes k levels: those left, of s, are all of s₀
 pub record Levels (f : ℕ → List ℕ → List ℕ) (level left : ℕ) (s₀ s : List ℕ) : Type 0 where
   pub same : length s ≡ length s₀
   pub bytes : Bytes s

@@ -2,7 +2,7 @@
 use mathlib.Core.Path.{_≡_, refl, sym, ap, _∙_}
 use mathlib.Core.List.{List, _++_, append-assoc, append-nil}
 use Prim.Native.Nat.{ℕ, zero, suc, _+_, _*_, _/_, _-_, _%_, _^_, _<_, _≤_}
-use native.Mathlib.Nat.{add-zero, zero-add, mul-suc, mod-eq-of-lt, mod-lt, zero-mod, mod-add-mod, add-mod-right, mod-mod-of-dvd, dvd-of-mod-eq-zero}
+use native.Mathlib.Nat.{add-zero, zero-add, mul-suc, mod-eq-of-lt, zero-mod, mod-add-mod, add-mod-right, mod-mod-of-dvd, dvd-of-mod-eq-zero}
 use native.Mathlib.Omega.{arith}
 use borrow.Author.Needs.{needs}
 use lib.ListN.{length, take}
@@ -28,7 +28,7 @@ unfolding unitsAt number
 units-after w q xs s h zero p k = refl
 units-after w q xs s h (suc n) p k = rw (part-after p w q xs s k h, units-after w q xs s h n (p + w) (omega arith))
 
--- what is put is what v leaves modulo the range
+-- only what v leaves modulo the range is put
 put-low : (w at v : ℕ) (s : List ℕ) → at ≤ length s → putAt at (bytesOf w v) s ≡ putAt at (bytesOf w (v % range w)) s
 unfolding bytesOf
 put-low w at v s h = sym (rw (add-zero at, put-nil at s, zero-add w) at (put-halves 0 w at v s (rw add-zero h)))

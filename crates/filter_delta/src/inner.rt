@@ -48,10 +48,10 @@ fn undo_levels(s: &mut [u8], w: usize, level: usize)
     requires { ⌜ (IsWidth w) × (length (now s) % w ≡ 0) ⌝ }
     ensures { λ _. ⌜ now (s .exit) ≡ undeltaBytes w level (now (s .entry)) ⌝ }
 {
-    let mut left = level;
-    while 0 < left {
+    let mut to_undo = level;
+    while 0 < to_undo {
         undo_pass(s, w);
-        left -= 1;
+        to_undo -= 1;
     }
 }
 
@@ -60,10 +60,10 @@ fn do_levels(s: &mut [u8], w: usize, level: usize)
     requires { ⌜ (IsWidth w) × (length (now s) % w ≡ 0) ⌝ }
     ensures { λ _. ⌜ now (s .exit) ≡ deltaBytes w level (now (s .entry)) ⌝ }
 {
-    let mut left = level;
-    while 0 < left {
+    let mut to_do = level;
+    while 0 < to_do {
         do_pass(s, w);
-        left -= 1;
+        to_do -= 1;
     }
 }
 

@@ -27,14 +27,14 @@ loop-again c =
     let a = c .before .before .before .before .before .before .before in
     let l = c .before .before .before .before .before .loop in
     let k = c .before .before .do-pass in
-    do-more (a .args .w) (a .args .level) (l .left) (a .args .s .now) (l .s) (a .pre .0 .0) (k .last .0) (l .inv) (c .before .before .before .before .loop-test .taken) (k .ensures)
+    do-more (a .args .w) (a .args .level) (l .to-do) (a .args .s .now) (l .s) (a .pre .0 .0) (k .last .0) (l .inv) (omega arith) (k .ensures)
     (k .kept .0) (bytes-of (k .last .0) (λ i. c .slice-known2 .given i .fits))
 
 returns : tie.Need-returns Inv-loop μ-loop
 returns c =
     let a = c .before .before .before in
     let l = c .before .loop in
-    do-last (a .args .w) (a .args .level) (l .left) (a .args .s .now) (l .s) (a .pre .0 .0) (a .pre .1) (l .inv) (omega arith)
+    do-last (a .args .w) (a .args .level) (l .to-do) (a .args .s .now) (l .s) (a .pre .0 .0) (a .pre .1) (l .inv) (omega arith)
 
 pub do-levels-spec : {M : Type 1} → statement M
 do-levels-spec = tie.close (tie.spec Inv-loop μ-loop loop-holds do-pass-requires (λ c. search needs) (λ c. search needs) loop-again (λ c. search needs) returns)

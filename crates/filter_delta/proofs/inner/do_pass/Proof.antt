@@ -1,3 +1,4 @@
+use native.Mathlib.Omega.{arith}
 use Rattle.filter_delta.proofs.Pass.{Doing, do-turn, passes}
 use Rattle.filter_delta.proofs.inner.do_pass.Statement.{statement}
 use Rattle.filter_delta.proofs.inner.do_pass.Tie as tie
@@ -15,7 +16,7 @@ loop-again c =
     let x = c .before .before .before .before .before .get-unit in
     let v = c .before .before .before .wrapping-sub-u32 in
     let k = c .before .before .put-unit in
-    do-turn (a .args .w) (a .args .s .now) (l .p) (l .left) (l .at) (l .s) (a .pre .0) (l .inv) (c .before .before .before .before .before .before .before .loop-test .taken)
+    do-turn (a .args .w) (a .args .s .now) (l .p) (l .left) (l .at) (l .s) (a .pre .0) (l .inv) (omega arith)
     (x .result) (v .result) (k .last .0) (x .ensures .0) (x .ensures .1) (v .ensures) (k .ensures)
 
 pub do-pass-spec : {M : Type 1} → statement M

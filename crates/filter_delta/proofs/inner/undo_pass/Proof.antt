@@ -16,7 +16,7 @@ loop-again c =
     let x = c .before .before .before .before .before .get-unit in
     let v = c .before .before .before .before .wrapping-add-u32 in
     let k = c .before .before .put-unit in
-    undo-turn (a .args .w) (a .args .s .now) (l .p) (l .left) (l .at) (l .s) (a .pre .0) (l .inv) (c .before .before .before .before .before .before .before .loop-test .taken)
+    undo-turn (a .args .w) (a .args .s .now) (l .p) (l .left) (l .at) (l .s) (a .pre .0) (l .inv) (omega arith)
     (x .result) (v .result) (k .last .0) (x .ensures .0) (v .ensures) (k .ensures)
 
 returns : tie.Need-returns Inv-loop μ-loop

@@ -10,11 +10,11 @@ ghost use Rattle.filter_format.specs.Block.{filterOf, Known, filterAt, isRaw, i
 ghost use Rattle.filter_block.specs.Tests.{dataTest};
 use answers::Answer;
 use filter_format::Filter;
-use filter_narrow::inner::count_units;
 use filter_narrow::Counted;
+use filter_narrow::inner::count_units;
+use octets::ByteTest;
 use octets::first_not;
 use octets::wide;
-use octets::ByteTest;
 
 // What a format stands for.
 pub fn filter_of(format: usize) -> Filter

@@ -68,23 +68,23 @@ fn do_levels(s: &mut [u8], w: usize, level: usize)
 }
 
 // Puts the data at `at`, `level` levels off.
-pub fn put_undone(out: &mut [u8], at: usize, data: &[u8], w: usize, level: usize)
-    requires { ⌜ (IsWidth w) × (length (now «data») % w ≡ 0) × (at + length (now «data») ≤ length (now out)) ⌝ }
-    ensures { λ _. ⌜ now (out .exit) ≡ putAt at (undeltaBytes w level (now («data» .entry))) (now (out .entry)) ⌝ }
+pub fn put_undone(out: &mut [u8], at: usize, source: &[u8], w: usize, level: usize)
+    requires { ⌜ (IsWidth w) × (length (now source) % w ≡ 0) × (at + length (now source) ≤ length (now out)) ⌝ }
+    ensures { λ _. ⌜ now (out .exit) ≡ putAt at (undeltaBytes w level (now (source .entry))) (now (out .entry)) ⌝ }
 {
-    let n = data.len();
+    let n = source.len();
     let end = at + n;
-    copy(out, at, data, 0, n);
+    copy(out, at, source, 0, n);
     undo_levels(&mut out[at..end], w, level);
 }
 
 // Puts the data at `at`, `level` levels on.
-pub fn put_delta(out: &mut [u8], at: usize, data: &[u8], w: usize, level: usize)
-    requires { ⌜ (IsWidth w) × (length (now «data») % w ≡ 0) × (at + length (now «data») ≤ length (now out)) ⌝ }
-    ensures { λ _. ⌜ now (out .exit) ≡ putAt at (deltaBytes w level (now («data» .entry))) (now (out .entry)) ⌝ }
+pub fn put_delta(out: &mut [u8], at: usize, source: &[u8], w: usize, level: usize)
+    requires { ⌜ (IsWidth w) × (length (now source) % w ≡ 0) × (at + length (now source) ≤ length (now out)) ⌝ }
+    ensures { λ _. ⌜ now (out .exit) ≡ putAt at (deltaBytes w level (now (source .entry))) (now (out .entry)) ⌝ }
 {
-    let n = data.len();
+    let n = source.len();
     let end = at + n;
-    copy(out, at, data, 0, n);
+    copy(out, at, source, 0, n);
     do_levels(&mut out[at..end], w, level);
 }

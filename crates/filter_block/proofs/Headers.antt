@@ -1,5 +1,5 @@
 -- The format byte, and the header of formats 64, 65 and 66. Assumes nothing.
-use mathlib.Core.Path.{_≡_, refl, sym, ap, _∙_}
+use mathlib.Core.Path.{_≡_, refl, subst}
 use mathlib.Core.Bool.{Bool, true, false, cond}
 use mathlib.Core.List.{List, [], _∷_}
 use Prim.Native.Nat.{ℕ, suc, _<_, _≤_}
@@ -8,7 +8,7 @@ use lib.Dec.{eqb}
 use lib.ListN.{length, getD}
 use Rattle.filter_format.specs.declared.Filter.{Filter}
 use Rattle.filter_format.specs.declared.Filter.the-variants.{Delta}
-use Rattle.filter_format.specs.Block.{headerLength}
+use Rattle.filter_format.specs.Block.{Known, headerLength}
 
 pub first-none : (b : List ℕ) → length b ≡ 0 → 0 ≡ getD b 0 0
 first-none [] e = refl
@@ -19,9 +19,16 @@ two-or-four true = (omega arith, omega arith)
 two-or-four false = (omega arith, omega arith)
 
 -- behind the level, at the earliest
-pub delta-start : (f : Filter) (w n : ℕ) → f ≡ Delta w → n ≡ headerLength f → 2 ≤ n
+pub delta-start : (w n : ℕ) → n ≡ headerLength (Delta w) → 2 ≤ n
 unfolding headerLength
-delta-start f w n e h = let k = two-or-four (eqb w 4) in let l : n ≡ cond (eqb w 4) 4 2 = h ∙ rw e in omega arith
+delta-start w n h = let k = two-or-four (eqb w 4) in omega arith
 
-pub level-in : (f : Filter) (w : ℕ) (b : List ℕ) → f ≡ Delta w → headerLength f ≤ length b → 1 < length b
-level-in f w b e h = let k = delta-start f w (headerLength f) e refl in omega arith
+pub level-in : (w : ℕ) (b : List ℕ) → headerLength (Delta w) ≤ length b → 1 < length b
+level-in w b h = let k = delta-start w (headerLength (Delta w)) refl in omega arith
+
+-- what is known of a filter, of the case that it is
+pub told : (f g : Filter) (b : List ℕ) → f ≡ g → (Known f) × (headerLength f ≤ length b) → (Known g) × (headerLength g ≤ length b)
+told f g b e h = subst (λ (x : Filter). (Known x) × (headerLength x ≤ length b)) e h
+
+pub told-fits : (f g : Filter) (b : List ℕ) → f ≡ g → (Known f) × (headerLength f ≤ length b) → headerLength g ≤ length b
+told-fits f g b e h = told f g b e h .1

@@ -1,0 +1,115 @@
+-- The tests of a block as the code makes them, filter by filter. Assumes nothing.
+use mathlib.Core.Path.{_≡_, refl, sym, ap, _∙_}
+use mathlib.Core.Bool.{Bool, true, false, cond, not}
+use mathlib.Core.List.{List}
+use Prim.Native.Nat.{ℕ, _-_, _*_, _/_, _%_, _<_, _≤_}
+use native.Mathlib.Nat.{div-lt-iff-lt-mul, le-div-iff-mul-le}
+use native.Mathlib.Omega.{arith}
+use borrow.Author.Tests.{lt-ltb, le-ltb, eq-eqb, ne-eqb}
+use lib.Dec.{eqb, ltb}
+use lib.ListN.{length, drop, take, length-drop}
+use lib.Seq.{take-all}
+use Rattle.octets.specs.Parts.{part}
+use Rattle.answers.specs.declared.Answer.{Answer}
+use Rattle.answers.specs.declared.Answer.the-variants.{Accepted, Refused}
+use Rattle.answers.specs.Answer.{when, _then_}
+use Rattle.filter_format.specs.declared.Filter.{Filter}
+use Rattle.filter_format.specs.declared.Filter.the-variants.{Raw, Delta, Narrow, Follow, Other}
+use Rattle.filter_format.specs.Units.{IsWidth}
+use Rattle.filter_format.specs.Narrow.{lacking, begun}
+use Rattle.filter_format.specs.Block.{headerLength, levelAt, followAt, dataAt, badHeader, badData, decoded, undone, contentsTest}
+use Rattle.filter_format.proofs.Blocks.{whole-data, none-lacking, length-raw, length-delta-undone, length-widened, length-follow-undone}
+use Rattle.filter_narrow.specs.declared.Counted.{Counted}
+use Rattle.filter_narrow.specs.declared.Counted.the-variants.{Units, Lacking}
+use Rattle.filter_narrow.specs.Counted.{counted}
+use Rattle.filter_block.specs.Tests.{dataTest}
+
+-- a part that goes to the end
+pub part-end : (n : ℕ) (b : List ℕ) → part n (length b - n) b ≡ drop n b
+part-end n b = take-all (length b - n) (drop n b) (let e = length-drop n b in omega arith)
+
+-- the room, by the number of units
+module _ (n w room : ℕ) (positive : 0 < w) where
+  pub units-over : room / w < n → Refused 26 0 ≡ when (ltb room (n * w)) 26 0
+  unfolding when
+  units-over h = rw (lt-ltb room (n * w) (div-lt-iff-lt-mul positive .0 h))
+
+  pub units-fit : n ≤ room / w → Accepted ≡ when (ltb room (n * w)) 26 0
+  unfolding when
+  units-fit h = rw (le-ltb room (n * w) (le-div-iff-mul-le positive .0 h))
+
+module _ (f : Filter) (room : ℕ) (b : List ℕ) where
+  data-length : length (dataAt f b) ≡ length b - headerLength f
+  data-length = length-drop (headerLength f) b
+
+  -- data that are refused, and data that are not
+  data-bad : badData f (dataAt f b) ≡ true → Refused 43 0 ≡ dataTest f room b
+  unfolding dataTest when _then_
+  data-bad e = rw e
+
+  data-good : (n : ℕ) → badData f (dataAt f b) ≡ false → length (undone f b) ≡ n → when (ltb room n) 26 0 ≡ dataTest f room b
+  unfolding dataTest when _then_
+  data-good n e l = rw (e, l)
+
+-- what a count tells
+lacking-told : (t : Bool) (m : ℕ) → Lacking ≡ cond t Lacking (Units m) → t ≡ true
+lacking-told true m e = refl
+lacking-told false m e = let z : _≡_ {A = ℕ} 0 1 = cc in absurd (omega arith)
+
+units-told : (t : Bool) (n m : ℕ) → Units n ≡ cond t Lacking (Units m) → (t ≡ false) × (n ≡ m)
+units-told true n m e = let z : _≡_ {A = ℕ} 0 1 = cc in absurd (omega arith)
+units-told false n m e = (refl, cc)
+
+module _ (room : ℕ) (b : List ℕ) where
+  pub raw-data : when (ltb room (length b - 1)) 26 0 ≡ dataTest Raw room b
+  unfolding undone badData headerLength
+  raw-data = data-good Raw room b (length b - 1) refl (length-raw (levelAt b) (followAt b) (drop 1 b) ∙ length-drop 1 b)
+
+  pub follow-data : when (ltb room (length b - 257)) 26 0 ≡ dataTest Follow room b
+  unfolding undone badData headerLength
+  follow-data = data-good Follow room b (length b - 257) refl (length-follow-undone (levelAt b) (followAt b) (drop 257 b) ∙ length-drop 257 b)
+
+  pub other-data : Accepted ≡ dataTest Other room b
+  unfolding undone badData decoded when
+  other-data = ap (λ (t : Bool). when t 26 0) (sym (le-ltb room 0 (omega arith))) ∙ data-good Other room b 0 refl refl
+
+  module _ (w n : ℕ) (e : n ≡ length b - headerLength (Delta w)) where
+    long : length (dataAt (Delta w) b) ≡ n
+    long = data-length (Delta w) room b ∙ sym e
+
+    pub delta-broken : (n % w ≡ 0 → ⊥) → Refused 43 0 ≡ dataTest (Delta w) room b
+    unfolding badData
+    delta-broken k = data-bad (Delta w) room b (ap not (ne-eqb (length (dataAt (Delta w) b) % w) 0 (λ h. k (ap (λ (x : ℕ). x % w) (sym long) ∙ h))))
+
+    pub delta-whole : IsWidth w → n % w ≡ 0 → when (ltb room n) 26 0 ≡ dataTest (Delta w) room b
+    unfolding undone badData
+    delta-whole k h =
+        let whole : length (dataAt (Delta w) b) % w ≡ 0 = ap (λ (x : ℕ). x % w) long ∙ h in
+        data-good (Delta w) room b n (ap not (eq-eqb (length (dataAt (Delta w) b) % w) 0 whole))
+        (length-delta-undone (levelAt b) (followAt b) (dataAt (Delta w) b) w k whole ∙ long)
+
+  module _ (w : ℕ) where
+    pub narrow-lacking : Lacking ≡ counted w (drop 1 b) → Refused 43 0 ≡ dataTest (Narrow w) room b
+    unfolding counted badData headerLength
+    narrow-lacking e = data-bad (Narrow w) room b (lacking-told _ (begun w 0 (drop 1 b)) e)
+
+    pub narrow-units : (n : ℕ) → Units n ≡ counted w (drop 1 b) → when (ltb room (n * w)) 26 0 ≡ dataTest (Narrow w) room b
+    unfolding counted badData headerLength undone
+    narrow-units n e =
+        let k = units-told (ltb 0 (lacking w 0 (drop 1 b))) n (begun w 0 (drop 1 b)) e in
+        data-good (Narrow w) room b (n * w) (k .0)
+        (length-widened (levelAt b) (followAt b) (drop 1 b) w (none-lacking w (drop 1 b) (k .0)) ∙ ap (λ (x : ℕ). x * w) (sym (k .1)))
+
+-- the tests from the header on
+module _ (f : Filter) (room : ℕ) (b : List ℕ) where
+  pub header-cut : length b < headerLength f → Refused 40 0 ≡ contentsTest f room b
+  unfolding contentsTest when _then_
+  header-cut h = rw (lt-ltb (length b) (headerLength f) h)
+
+  pub header-bad : headerLength f ≤ length b → badHeader f b ≡ true → Refused 42 0 ≡ contentsTest f room b
+  unfolding contentsTest when _then_
+  header-bad h e = rw (le-ltb (length b) (headerLength f) h, e)
+
+  pub header-good : headerLength f ≤ length b → badHeader f b ≡ false → dataTest f room b ≡ contentsTest f room b
+  unfolding contentsTest dataTest when _then_
+  header-good h e = rw (le-ltb (length b) (headerLength f) h, e)

@@ -1,19 +1,17 @@
 -- Formats 70 and 71: the way there and back, and the steps of the way back. Assumes nothing.
 use mathlib.Core.Path.{_≡_, refl, sym, ap, _∙_}
-use mathlib.Core.List.{List, [], _∷_, _++_, append-assoc}
-use mathlib.Core.Bool.{Bool, true, false, cond}
+use mathlib.Core.List.{List, [], _∷_, _++_}
 use mathlib.Core.Logic.{_⊎_, inl, inr, ⊎-elim}
 use Prim.Native.Nat.{ℕ, zero, suc, _+_, _*_, _-_, _%_, _^_, _<_, _≤_}
 use native.Mathlib.Nat.{pow-suc, one-le-pow, suc-mul}
 use native.Mathlib.Decide.{decLe, ℕ-discrete}
 use native.Mathlib.Omega.{arith}
 use borrow.Author.Tests.{le-leb, lt-leb, eq-eqb, ne-eqb, lt-ltb, le-ltb}
-use lib.Dec.{eqb, leb, ltb}
-use lib.ListN.{length, take, drop, length-append, length-take, length-drop}
+use lib.ListN.{length, length-append}
 use Rattle.octets.specs.Numbers.{Below, bytesOf, unitBytes}
 use Rattle.octets.proofs.Digits.{length-bytesOf}
 use Rattle.filter_format.specs.Units.{range, IsWidth}
-use Rattle.filter_format.specs.Narrow.{narrowUnit, narrow, extended, widen, lacking, begun}
+use Rattle.filter_format.specs.Narrow.{least, narrowUnit, narrow, extended, widen, lacking, begun}
 
 -- the bytes of a whole unit are taken as they are
 pub widen-whole : (w : ℕ) (t s : List ℕ) → widen w (length t) (t ++ s) ≡ t ++ widen w 0 s
@@ -50,52 +48,48 @@ enough w zero s e = omega arith
 enough w (suc k) [] e = absurd (omega (arith, e))
 enough w (suc k) (c ∷ s) e = omega (arith, enough w k s e)
 
--- the low byte of a unit from the range difference 127 on
-high-byte : (q m u : ℕ) → m ≡ q * 256 → 1 ≤ q → m - 127 ≤ u → u < m → 127 < u → (128 < u % 256) × (m - 256 + u % 256 ≡ u)
-high-byte q m u e h a b c = omega arith
-
 -- a unit is one byte, which is not 128 and stands for it, or whole
-abbrev Shrunk : ℕ → ℕ → Type 0
-Shrunk w u = ((c : ℕ) × (narrowUnit w u ≡ c ∷ []) × (c ≡ 128 → ⊥) × (extended w c ≡ u)) ⊎ (narrowUnit w u ≡ 128 ∷ bytesOf w u)
+abbrev Narrowed : ℕ → ℕ → Type 0
+Narrowed w u = ((c : ℕ) × (narrowUnit w u ≡ c ∷ []) × (c ≡ 128 → ⊥) × (extended w c ≡ u)) ⊎ (narrowUnit w u ≡ 128 ∷ bytesOf w u)
 
-shrunk-by : (w u : ℕ) → 0 < w → u < 256 ^ w → Dec (u ≤ 127) → Dec (256 ^ w - 127 ≤ u) → Shrunk w u
+narrowed-by : (w u : ℕ) → 0 < w → u < range w → Dec (u ≤ 127) → Dec (least w ≤ u) → Narrowed w u
 unfolding narrowUnit extended
-shrunk-by w u pos fits (yes h) d = inl (u, rw (le-leb u 127 h), (λ e. omega arith), rw (lt-ltb u 128 (omega arith)))
-shrunk-by zero u pos fits (no n) d = absurd (omega arith)
-shrunk-by (suc v) u pos fits (no n) (yes h) =
-    let m = 256 ^ suc v in
-    let k = high-byte (256 ^ v) m u (pow-suc 256 v) (one-le-pow v 256 (omega arith)) h fits (omega arith) in
-    inl (u % 256, rw (lt-leb u 127 (omega arith), le-leb (m - 127) u h), (λ e. omega (arith, e, k .0)), rw (le-ltb (u % 256) 128 (omega (arith, k .0))) (k .1))
-shrunk-by (suc v) u pos fits (no n) (no h) = inr (rw (lt-leb u 127 (omega arith), lt-leb (256 ^ suc v - 127) u (omega arith)))
+narrowed-by w u pos fits (yes h) d = inl (u, rw (le-leb u 127 h), (λ e. omega arith), rw (lt-ltb u 128 (omega arith)))
+narrowed-by zero u pos fits (no n) d = absurd (omega arith)
+narrowed-by (suc v) u pos fits (no n) (yes h) =
+    -- the low byte of such a unit is not 128
+    let low : (128 < u % 256) × (range (suc v) - 256 + u % 256 ≡ u) = omega (arith, h, fits, pow-suc 256 v, one-le-pow v 256 (omega arith)) in
+    inl (u % 256, rw (lt-leb u 127 (omega arith), le-leb (least (suc v)) u h), (λ e. omega (arith, e, low .0)), rw (le-ltb (u % 256) 128 (omega (arith, low .0))) (low .1))
+narrowed-by (suc v) u pos fits (no n) (no h) = inr (rw (lt-leb u 127 (omega arith), lt-leb (least (suc v)) u (omega arith)))
 
-module _ (w u : ℕ) (pos : 0 < w) (fits : u < 256 ^ w) (s : List ℕ) where
-  shrunk : Shrunk w u
-  shrunk = shrunk-by w u pos fits (decLe u 127) (decLe (256 ^ w - 127) u)
+module _ (w u : ℕ) (pos : 0 < w) (fits : u < range w) (s : List ℕ) where
+  narrowed : Narrowed w u
+  narrowed = narrowed-by w u pos fits (decLe u 127) (decLe (least w) u)
 
-  there : widen w 0 (narrowUnit w u ++ s) ≡ bytesOf w u ++ widen w 0 s
-  there =
+  widen-unit : widen w 0 (narrowUnit w u ++ s) ≡ bytesOf w u ++ widen w 0 s
+  widen-unit =
       ⊎-elim
       (λ k. rw (k .1) (widen-short w (k .0) s (k .2) ∙ ap (λ (v : ℕ). bytesOf w v ++ widen w 0 s) (k .3)))
       (λ e. rw e (widen-long w 128 (bytesOf w u ++ s) refl ∙ ap (λ (n : ℕ). widen w n (bytesOf w u ++ s)) (sym (length-bytesOf w u)) ∙ widen-whole w (bytesOf w u) s))
-      shrunk
+      narrowed
 
-  there-lacking : lacking w 0 (narrowUnit w u ++ s) ≡ lacking w 0 s
-  there-lacking =
+  lacking-unit : lacking w 0 (narrowUnit w u ++ s) ≡ lacking w 0 s
+  lacking-unit =
       ⊎-elim
       (λ k. rw (k .1) (lacking-short w (k .0) s (k .2)))
       (λ e. rw e (lacking-long w 128 (bytesOf w u ++ s) refl ∙ ap (λ (n : ℕ). lacking w n (bytesOf w u ++ s)) (sym (length-bytesOf w u)) ∙ lacking-whole w (bytesOf w u) s))
-      shrunk
+      narrowed
 
 -- undone after done
 pub widen-narrow : (w : ℕ) (us : List ℕ) → 0 < w → Below (256 ^ w) us → widen w 0 (narrow w us) ≡ unitBytes w us
 unfolding narrow unitBytes widen
 widen-narrow w [] pos h = refl
-widen-narrow w (u ∷ us) pos h = there w u pos (h .0) (narrow w us) ∙ ap (λ (l : List ℕ). bytesOf w u ++ l) (widen-narrow w us pos (h .1))
+widen-narrow w (u ∷ us) pos h = widen-unit w u pos (h .0) (narrow w us) ∙ ap (λ (l : List ℕ). bytesOf w u ++ l) (widen-narrow w us pos (h .1))
 
 pub lacking-narrow : (w : ℕ) (us : List ℕ) → 0 < w → Below (256 ^ w) us → lacking w 0 (narrow w us) ≡ 0
 unfolding narrow lacking
 lacking-narrow w [] pos h = refl
-lacking-narrow w (u ∷ us) pos h = there-lacking w u pos (h .0) (narrow w us) ∙ lacking-narrow w us pos (h .1)
+lacking-narrow w (u ∷ us) pos h = lacking-unit w u pos (h .0) (narrow w us) ∙ lacking-narrow w us pos (h .1)
 
 -- the unit of one byte at 32 bits, seen at a smaller width
 extended-low : (w c : ℕ) → c < 128 → extended w c ≡ c
@@ -139,13 +133,13 @@ pub begun-short : (w c : ℕ) (s : List ℕ) → (c ≡ 128 → ⊥) → begun w
 unfolding begun
 begun-short w c s n = rw (ne-eqb c 128 n)
 
-grown-by : (w c : ℕ) (s : List ℕ) → Dec (c ≡ 128) → lacking w 0 (c ∷ s) ≡ 0
+length-widen-by : (w c : ℕ) (s : List ℕ) → Dec (c ≡ 128) → lacking w 0 (c ∷ s) ≡ 0
     → (lacking w 0 s ≡ 0 → length (widen w 0 s) ≡ 0 + begun w 0 s * w)
     → (lacking w w s ≡ 0 → length (widen w w s) ≡ w + begun w w s * w)
     → length (widen w 0 (c ∷ s)) ≡ 0 + begun w 0 (c ∷ s) * w
-grown-by w c s (yes q) e short long =
+length-widen-by w c s (yes q) e short long =
     rw (widen-long w c s q, begun-long w c s q, suc-mul (begun w w s) w) (long (sym (lacking-long w c s q) ∙ e) ∙ omega arith)
-grown-by w c s (no q) e short long =
+length-widen-by w c s (no q) e short long =
     rw (widen-short w c s q, begun-short w c s q, suc-mul (begun w 0 s) w, length-append (bytesOf w (extended w c)) (widen w 0 s), length-bytesOf w (extended w c))
     (ap (λ (n : ℕ). w + n) (short (sym (lacking-short w c s q) ∙ e)) ∙ omega arith)
 
@@ -155,4 +149,4 @@ unfolding widen lacking begun
 length-widen w zero [] e = omega arith
 length-widen w (suc k) [] e = absurd (omega (arith, e))
 length-widen w (suc k) (c ∷ s) e = ap suc (length-widen w k s e) ∙ omega arith
-length-widen w zero (c ∷ s) e = grown-by w c s (ℕ-discrete c 128) e (length-widen w 0 s) (length-widen w w s)
+length-widen w zero (c ∷ s) e = length-widen-by w c s (ℕ-discrete c 128) e (length-widen w 0 s) (length-widen w w s)

@@ -1,14 +1,18 @@
 -- Formats 70 and 71: "signed units of 2, 4 bytes; -127 to 127 as one byte, else byte 128 and the unit whole". Assumes nothing: these are definitions.
 use Prim.Native.Nat.{ℕ, zero, suc, _+_, _-_, _%_}
-use mathlib.Core.Bool.{Bool, true, false, cond}
+use mathlib.Core.Bool.{cond}
 use mathlib.Core.List.{List, [], _∷_, _++_}
 use lib.Dec.{eqb, leb, ltb}
 use Rattle.octets.specs.Numbers.{bytesOf}
 use Rattle.filter_format.specs.Units.{range}
 
--- a unit in two's complement: 0 to 127 and the range less 127 to the range less 1 are -127 to 127
+-- -127 as a unit
+abbrev pub least : ℕ → ℕ
+least w = range w - 127
+
+-- a unit in two's complement: 0 to 127 and the least to the range less 1 are -127 to 127
 unfoldable pub narrowUnit : ℕ → ℕ → List ℕ
-narrowUnit w u = cond (leb u 127) (u ∷ []) (cond (leb (range w - 127) u) (u % 256 ∷ []) (128 ∷ bytesOf w u))
+narrowUnit w u = cond (leb u 127) (u ∷ []) (cond (leb (least w) u) (u % 256 ∷ []) (128 ∷ bytesOf w u))
 
 unfoldable pub narrow : ℕ → List ℕ → List ℕ
 narrow w [] = []

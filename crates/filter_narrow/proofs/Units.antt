@@ -8,30 +8,31 @@ use native.Mathlib.Numerals.{add-one}
 use native.Mathlib.Omega.{arith}
 use borrow.Author.Tests.{leb-true}
 use lib.Dec.{leb}
-use lib.ListN.{length, set, length-append, length-set}
+use lib.ListN.{length, set, length-append}
 use Rattle.octets.specs.Parts.{putAt}
 use Rattle.octets.specs.Numbers.{number, bytesOf, unitsAt}
-use Rattle.octets.proofs.Lists.{put-sets, put-put, length-put}
+use Rattle.octets.proofs.Lists.{put-sets, put-put}
 use Rattle.octets.proofs.Digits.{length-bytesOf}
-use Rattle.filter_format.specs.Units.{range, unitsOf}
-use Rattle.filter_format.specs.Narrow.{narrowUnit, narrow}
+use Rattle.filter_format.specs.Units.{unitsOf}
+use Rattle.filter_format.specs.Narrow.{least, narrowUnit, narrow}
 use Rattle.filter_format.proofs.Wholes.{units-in}
 use Rattle.filter_narrow.specs.Counted.{fitsOne}
 use Rattle.filter_narrow.proofs.Filling.{Filling, filling-start, filling-same, filling-room, filling-more, filling-done}
 
+-- t is what the test of the unit u gave
 module _ (w u : ℕ) {t : Bool} (e : t ≡ fitsOne w u) where
-  pub narrow-one : t ≡ true → narrowUnit w u ≡ u % 256 ∷ []
+  narrow-one : t ≡ true → narrowUnit w u ≡ u % 256 ∷ []
   unfolding narrowUnit
-  narrow-one f = go (leb u 127) (leb (range w - 127) u) refl (sym e ∙ f)
+  narrow-one f = go (leb u 127) (leb (least w) u) refl (sym e ∙ f)
     where
       go : (a b : Bool) → leb u 127 ≡ a → (a || b) ≡ true → cond a (u ∷ []) (cond b (u % 256 ∷ []) (128 ∷ bytesOf w u)) ≡ u % 256 ∷ []
       go true b h o = let small = leb-true u 127 h in ap (λ (x : ℕ). x ∷ []) (let q : u ≡ u % 256 = omega arith in q)
       go false true h o = refl
       go false false h o = cc
 
-  pub narrow-whole : t ≡ false → narrowUnit w u ≡ 128 ∷ bytesOf w u
+  narrow-whole : t ≡ false → narrowUnit w u ≡ 128 ∷ bytesOf w u
   unfolding narrowUnit
-  narrow-whole f = go (leb u 127) (leb (range w - 127) u) (sym e ∙ f)
+  narrow-whole f = go (leb u 127) (leb (least w) u) (sym e ∙ f)
     where
       go : (a b : Bool) → (a || b) ≡ false → cond a (u ∷ []) (cond b (u % 256 ∷ []) (128 ∷ bytesOf w u)) ≡ 128 ∷ bytesOf w u
       go true b o = cc
@@ -54,39 +55,39 @@ module _ (w u : ℕ) {t : Bool} (e : t ≡ fitsOne w u) where
         d ∙ rw (narrow-whole f) (ap (λ (l : List ℕ). putAt (at + 1) (bytesOf w u) l) (put-sets (128 ∷ []) out at h) ∙ put-put at (128 ∷ []) (bytesOf w u) out h)
 
 -- `left` units are to come, from place `from` on, of data in whole units
-pub record Units (w from left : ℕ) (s : List ℕ) : Type 0 where
+pub record Remaining (w from left : ℕ) (s : List ℕ) : Type 0 where
   pub exact : from + w * left ≡ length s
 
-module _ {w from left : ℕ} {s : List ℕ} (m : Units w from left s) (some : 0 < left) where
+module _ {w from left : ℕ} {s : List ℕ} (m : Remaining w from left s) (some : 0 < left) where
   split : w * left ≡ w * (left - 1) + w
   split = let e : left ≡ suc (left - 1) = omega arith in ap (λ (k : ℕ). w * k) e ∙ mul-suc w (left - 1) ∙ omega arith
 
-  pub units-within : from + w ≤ length s
-  units-within = omega (arith, split, m .exact)
+  pub remaining-within : from + w ≤ length s
+  remaining-within = omega (arith, split, m .exact)
 
-  pub units-more : Units w (from + w) (left - 1) s
-  units-more = record { exact = omega (arith, split, m .exact) }
+  remaining-more : Remaining w (from + w) (left - 1) s
+  remaining-more = record { exact = omega (arith, split, m .exact) }
 
-  pub units-first : (u : ℕ) → u ≡ number w from s → narrow w (unitsAt w left from s) ≡ narrowUnit w u ++ narrow w (unitsAt w (left - 1) (from + w) s)
+  remaining-first : (u : ℕ) → u ≡ number w from s → narrow w (unitsAt w left from s) ≡ narrowUnit w u ++ narrow w (unitsAt w (left - 1) (from + w) s)
   unfolding unitsAt narrow
-  units-first u e = let n : left ≡ suc (left - 1) = omega arith in ap (λ (k : ℕ). narrow w (unitsAt w k from s)) n ∙ rw e
+  remaining-first u e = let n : left ≡ suc (left - 1) = omega arith in ap (λ (k : ℕ). narrow w (unitsAt w k from s)) n ∙ rw e
 
-pub units-start : (w : ℕ) (s : List ℕ) → length s % w ≡ 0 → Units w 0 (length s / w) s
-units-start w s e = record { exact = omega (arith, units-in w s e) }
+remaining-start : (w : ℕ) (s : List ℕ) → length s % w ≡ 0 → Remaining w 0 (length s / w) s
+remaining-start w s e = record { exact = omega (arith, units-in w s e) }
 
-units-none : (w left from : ℕ) (s : List ℕ) → left ≤ 0 → narrow w (unitsAt w left from s) ≡ []
+remaining-none : (w left from : ℕ) (s : List ℕ) → left ≤ 0 → narrow w (unitsAt w left from s) ≡ []
 unfolding unitsAt narrow
-units-none w left from s h = let e : left ≡ 0 = omega arith in rw e
+remaining-none w left from s h = let e : left ≡ 0 = omega arith in rw e
 
 -- the units before place `from` take `size` bytes; they hold at least two bytes each, so that the sum stays small
 pub record Measuring (w from left size : ℕ) (s : List ℕ) : Type 0 where
-  pub units : Units w from left s
+  pub units : Remaining w from left s
   pub sum : size + length (narrow w (unitsAt w left from s)) ≡ length (narrow w (unitsOf w s))
   pub few : 2 * size ≤ 3 * from
   pub wide : 2 ≤ w
 
 pub measuring-start : (w : ℕ) (s : List ℕ) → length s % w ≡ 0 → 2 ≤ w → Measuring w 0 (length s / w) 0 s
-measuring-start w s e h = record { units = units-start w s e; sum = omega arith; few = omega arith; wide = h }
+measuring-start w s e h = record { units = remaining-start w s e; sum = omega arith; few = omega arith; wide = h }
 
 module _ {w from left size : ℕ} {s : List ℕ} (m : Measuring w from left size s) where
   pub measuring-few : 2 * size ≤ 3 * length s
@@ -94,19 +95,19 @@ module _ {w from left size : ℕ} {s : List ℕ} (m : Measuring w from left size
 
   pub measuring-more : 0 < left → (u n : ℕ) → u ≡ number w from s → n ≡ length (narrowUnit w u) → n ≤ w + 1 → Measuring w (from + w) (left - 1) (size + n) s
   measuring-more some u n e l h =
-      let k = ap length (units-first (m .units) some u e) ∙ length-append (narrowUnit w u) (narrow w (unitsAt w (left - 1) (from + w) s)) in
-      record { units = units-more (m .units) some; sum = omega (arith, m .sum, k, l); few = omega (arith, m .few, m .wide, h); wide = m .wide }
+      let k = ap length (remaining-first (m .units) some u e) ∙ length-append (narrowUnit w u) (narrow w (unitsAt w (left - 1) (from + w) s)) in
+      record { units = remaining-more (m .units) some; sum = omega (arith, m .sum, k, l); few = omega (arith, m .few, m .wide, h); wide = m .wide }
 
   pub measuring-done : left ≤ 0 → (size ≡ length (narrow w (unitsOf w s))) × (2 * size ≤ 3 * length s)
-  measuring-done h = let k = ap length (units-none w left from s h) in (omega (arith, m .sum, k), measuring-few)
+  measuring-done h = let k = ap length (remaining-none w left from s h) in (omega (arith, m .sum, k), measuring-few)
 
 -- the units before place `from` are put, from `at` up to `to`
 pub record Narrowing (w at from left to : ℕ) (s out₀ out : List ℕ) : Type 0 where
-  pub units : Units w from left s
+  pub units : Remaining w from left s
   pub filling : Filling at to (narrow w (unitsAt w left from s)) (narrow w (unitsOf w s)) out₀ out
 
 pub narrowing-start : (w at : ℕ) (s out : List ℕ) → length s % w ≡ 0 → at + length (narrow w (unitsOf w s)) ≤ length out → Narrowing w at 0 (length s / w) at s out out
-narrowing-start w at s out e h = record { units = units-start w s e; filling = filling-start at (narrow w (unitsOf w s)) out h }
+narrowing-start w at s out e h = record { units = remaining-start w s e; filling = filling-start at (narrow w (unitsOf w s)) out h }
 
 module _ {w at from left to : ℕ} {s out₀ out : List ℕ} (m : Narrowing w at from left to s out₀ out) where
   pub narrowing-same : length out ≡ length out₀
@@ -114,13 +115,13 @@ module _ {w at from left to : ℕ} {s out₀ out : List ℕ} (m : Narrowing w at
 
   module _ (some : 0 < left) (u : ℕ) (e : u ≡ number w from s) where
     pub narrowing-room : to + length (narrowUnit w u) ≤ length out
-    narrowing-room = filling-room (m .filling) (narrowUnit w u) (narrow w (unitsAt w (left - 1) (from + w) s)) (units-first (m .units) some u e)
+    narrowing-room = filling-room (m .filling) (narrowUnit w u) (narrow w (unitsAt w (left - 1) (from + w) s)) (remaining-first (m .units) some u e)
 
     pub narrowing-more : (next : ℕ) (out′ : List ℕ) → next ≡ to + length (narrowUnit w u) → out′ ≡ putAt to (narrowUnit w u) out → Narrowing w at (from + w) (left - 1) next s out₀ out′
     narrowing-more next out′ n d = record {
-      units = units-more (m .units) some;
-      filling = filling-more (m .filling) (narrowUnit w u) (narrow w (unitsAt w (left - 1) (from + w) s)) (units-first (m .units) some u e) next out′ n d;
+      units = remaining-more (m .units) some;
+      filling = filling-more (m .filling) (narrowUnit w u) (narrow w (unitsAt w (left - 1) (from + w) s)) (remaining-first (m .units) some u e) next out′ n d;
     }
 
   pub narrowing-done : left ≤ 0 → out ≡ putAt at (narrow w (unitsOf w s)) out₀
-  narrowing-done h = filling-done (m .filling) (units-none w left from s h)
+  narrowing-done h = filling-done (m .filling) (remaining-none w left from s h)

@@ -1,11 +1,11 @@
 -- The walk over units of formats 70 and 71, a unit a turn: the invariants of the count and of the loop that puts the units whole. Assumes nothing.
 use mathlib.Core.Path.{_≡_, refl, sym, ap, _∙_}
-use mathlib.Core.List.{List, [], _∷_, _++_}
-use Prim.Native.Nat.{ℕ, suc, _+_, _-_, _%_, _^_, _<_, _≤_}
+use mathlib.Core.List.{List, _∷_, _++_}
+use Prim.Native.Nat.{ℕ, suc, _+_, _-_, _<_, _≤_}
 use native.Mathlib.Numerals.{add-one}
 use native.Mathlib.Omega.{arith}
 use borrow.Author.Tests.{lt-ltb, le-ltb}
-use lib.ListN.{length, take, drop, getD, length-drop, take-append-drop, drop-of-length-le}
+use lib.ListN.{length, drop, getD, length-drop, take-append-drop, drop-of-length-le}
 use lib.Seq.{drop-cons, drop-drop}
 use Rattle.octets.specs.Parts.{part, putAt}
 use Rattle.octets.specs.Numbers.{number, bytesOf, Bytes}
@@ -44,7 +44,7 @@ module _ (w i : ℕ) (s : List ℕ) (in-data : i < length s) where
 
   module _ (e : getD s i 0 ≡ 128) where
     -- nothing is lacking, so the unit is there
-    pub long-within : lacking w 0 (drop i s) ≡ 0 → i + 1 + w ≤ length s
+    long-within : lacking w 0 (drop i s) ≡ 0 → i + 1 + w ≤ length s
     long-within none =
         let k = enough w w (drop (i + 1) s) (sym (lacking-long w (getD s i 0) (drop (i + 1) s) e) ∙ rw first at none) in
         omega (arith, k, length-drop (i + 1) s)
@@ -118,8 +118,9 @@ module _ {w i to : ℕ} {s out₀ out : List ℕ} (m : Widening w i to s out₀ 
   widening-long h e = long-turn w i s h e (long-within w i s h e (m .whole))
 
   module _ {j : ℕ} {u : List ℕ} (t : Turn w i j u s) where
-    pub widening-room : to + w ≤ length out
-    widening-room = rw (t .long) at (filling-room (m .filling) u (widen w 0 (drop j s)) (t .widens))
+    -- the unit lies in the data, and there is room for it
+    pub widening-room : (i < j) × (j ≤ length s) × (to + w ≤ length out) × (length out ≡ length out₀)
+    widening-room = (t .after, t .within, rw (t .long) at (filling-room (m .filling) u (widen w 0 (drop j s)) (t .widens)), widening-same)
 
     pub widening-more : (v : ℕ) (out′ : List ℕ) → bytesOf w v ≡ u → out′ ≡ putAt to (bytesOf w v) out → Widening w j (to + w) s out₀ out′
     widening-more v out′ e d = record {

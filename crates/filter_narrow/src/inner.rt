@@ -1,10 +1,10 @@
 // No entry points: the callers have the width from the format and have measured the room, hence each `requires`.
 ghost use mathlib.Core.Path.{_≡_};
-ghost use Prim.Native.Nat.{_+_, _-_, _*_, _%_, _<_, _≤_};
+ghost use Prim.Native.Nat.{_+_, _*_, _%_, _≤_};
 ghost use lib.ListN.{length};
 ghost use Rattle.octets.specs.Parts.{putAt};
-ghost use Rattle.filter_format.specs.Units.{IsWidth, range, unitsOf};
-ghost use Rattle.filter_format.specs.Narrow.{extended, lacking, narrow, narrowUnit, widen};
+ghost use Rattle.filter_format.specs.Units.{IsWidth, unitsOf};
+ghost use Rattle.filter_format.specs.Narrow.{extended, lacking, least, narrow, narrowUnit, widen};
 ghost use Rattle.filter_narrow.specs.Counted.{counted, fitsOne};
 use crate::Counted;
 use filter_units::inner::get_unit;
@@ -67,7 +67,7 @@ pub fn put_widened(out: &mut [u8], source: &[u8], w: usize)
 // -127 in w bytes.
 fn least(w: usize) -> u32
     requires { ⌜ IsWidth w ⌝ }
-    ensures { λ r. ⌜ r ≡ range w - 127 ⌝ }
+    ensures { λ r. ⌜ r ≡ least w ⌝ }
 {
     if w == 1 {
         129
@@ -111,7 +111,7 @@ pub fn narrowed_length(source: &[u8], w: usize) -> usize
 }
 
 // One unit at `at`, in one byte where it fits; answers the place after it.
-fn put_narrow(out: &mut [u8], at: usize, u: u32, w: usize) -> usize
+fn put_narrow(out: &mut [u8], at: usize, w: usize, u: u32) -> usize
     requires { ⌜ (IsWidth w) × (at + length (narrowUnit w u) ≤ length (now out)) ⌝ }
     ensures { λ r. ⌜ (r ≡ at + length (narrowUnit w u)) × (now (out .exit) ≡ putAt at (narrowUnit w u) (now (out .entry))) ⌝ }
 {
@@ -134,7 +134,7 @@ pub fn put_narrowed(out: &mut [u8], at: usize, source: &[u8], w: usize)
     let mut left = source.len() / w;
     let mut to = at;
     while 0 < left {
-        to = put_narrow(out, to, get_unit(source, from, w), w);
+        to = put_narrow(out, to, w, get_unit(source, from, w));
         from += w;
         left -= 1;
     }

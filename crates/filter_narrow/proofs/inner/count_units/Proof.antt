@@ -20,7 +20,7 @@ count-units-spec =
     (λ c. counting-start (c .args .w) (c .args .source .now))
     (λ c. omega arith)
     (λ c. omega arith)
-    (λ c. counting-lacking (c .before .before .before .before .loop .inv) (c .before .before .before .loop-test .taken) (c .before .if1 .taken) (c .if2 .taken))
+    (λ c. counting-lacking (c .before .before .before .before .loop .inv) (c .before .before .before .loop-test .taken) (c .before .if1 .taken) (omega arith))
     (λ c. omega arith)
     (λ c. omega arith)
     (λ c. omega arith)

@@ -1,9 +1,13 @@
 use mathlib.Core.Path.{_≡_, ap}
-use Prim.Native.Nat.{ℕ, _-_}
 use native.Mathlib.Omega.{arith}
-use Rattle.filter_format.specs.Units.{range}
+use Rattle.filter_format.specs.Narrow.{least}
 use Rattle.filter_narrow.proofs.inner.least.Statement.{statement}
 use Rattle.filter_narrow.proofs.inner.least.Tie as tie
 
 pub least-spec : {M : Type 1} → statement M
-least-spec = tie.close (tie.spec (λ c. ap (λ (k : ℕ). range k - 127) (let e : 1 ≡ c .before .args .w = omega arith in e)) (λ c. ap (λ (k : ℕ). range k - 127) (let e : 2 ≡ c .before .before .args .w = omega arith in e)) (λ c. ap (λ (k : ℕ). range k - 127) (let e : 4 ≡ c .before .before .args .w = omega arith in e)))
+least-spec =
+    tie.close
+    (tie.spec
+    (λ c. ap least (let e : 1 ≡ c .before .args .w = omega arith in e))
+    (λ c. ap least (let e : 2 ≡ c .before .before .args .w = omega arith in e))
+    (λ c. ap least (let e : 4 ≡ c .before .before .args .w = omega arith in e)))

@@ -6,4 +6,10 @@ use Rattle.filter_narrow.proofs.inner.narrow_length.Statement.{statemen
 use Rattle.filter_narrow.proofs.inner.narrow_length.Tie as tie
 
 pub narrow-length-spec : {M : Type 1} → statement M
-narrow-length-spec = tie.close (tie.spec (λ c κs. search needs) (λ c. search needs) (λ c. let a = c .before .before .args in (sym (length-one (a .w) (a .u) (c .before .fits-one .ensures) (c .if1 .taken)), omega arith)) (λ c. let a = c .before .before .args in (sym (length-whole (a .w) (a .u) (c .before .fits-one .ensures) (c .if1 .left)), omega arith)))
+narrow-length-spec =
+    tie.close
+    (tie.spec
+    (λ c κs. search needs)
+    (λ c. search needs)
+    (λ c. let a = c .before .before .args in (sym (length-one (a .w) (a .u) (c .before .fits-one .ensures) (c .if1 .taken)), omega arith))
+    (λ c. let a = c .before .before .args in (sym (length-whole (a .w) (a .u) (c .before .fits-one .ensures) (c .if1 .left)), omega arith)))

@@ -1,11 +1,7 @@
 use native.Mathlib.Omega.{arith}
-use Rattle.filter_narrow.proofs.Units.{Measuring, measuring-start, measuring-few, measuring-more, measuring-done, units-within}
+use Rattle.filter_narrow.proofs.Units.{Measuring, measuring-start, measuring-few, measuring-more, measuring-done, remaining-within}
 use Rattle.filter_narrow.proofs.inner.narrowed_length.Statement.{statement}
 use Rattle.filter_narrow.proofs.inner.narrowed_length.Tie as tie
-use Rattle.filter_narrow.proofs.inner.narrowed_length.Reads as reads
-use Rattle.filter_narrow.proofs.inner.narrowed_length.Lts as lts
-use Rattle.filter_narrow.proofs.inner.narrow_length.Reads as narrow-length-reads
-use Rattle.filter_units.proofs.inner.get_unit.Reads as get-unit-reads
 
 abbrev Inv-loop : tie.InvT-loop
 Inv-loop source w from₀ left₀ size₀ from left size = Measuring w from left size source
@@ -13,63 +9,19 @@ Inv-loop source w from₀ left₀ size₀ from left size = Measuring w from left
 abbrev μ-loop : tie.MeasureT-loop
 μ-loop source w from₀ left₀ size₀ from left size = left
 
--- src/inner.rt:107:20
-div-left : tie.Need-div-left Inv-loop μ-loop
-div-left c = omega arith
-
--- src/inner.rt:109:5
-loop-holds : tie.Need-loop-holds Inv-loop μ-loop
-loop-holds c = let a = c .before in measuring-start (a .args .w) (a .args .source .now) (a .pre .1) (a .pre .2)
-
--- src/inner.rt:110:31
-get-unit-requires : tie.Need-get-unit-requires Inv-loop μ-loop
-get-unit-requires c κs = (c .before .before .before .pre .0, units-within (c .before .loop .inv .units) (c .loop-test .taken))
-
--- src/inner.rt:110:17
-narrow-length-requires : tie.Need-narrow-length-requires Inv-loop μ-loop
-narrow-length-requires c κs = c .before .before .before .before .pre .0
-
--- src/inner.rt:110:9
-add-size : tie.Need-add-size Inv-loop μ-loop
-add-size c = omega (arith, measuring-few (c .before .before .before .loop .inv), units-within (c .before .before .before .loop .inv .units) (c .before .before .loop-test .taken), c .narrow-length .ensures .1, c .before .before .before .before .before .good)
-
--- src/inner.rt:111:9
-add-from : tie.Need-add-from Inv-loop μ-loop
-add-from c = omega (arith, measuring-few (c .before .before .before .loop .inv), units-within (c .before .before .before .loop .inv .units) (c .before .before .loop-test .taken), c .narrow-length .ensures .1, c .before .before .before .before .before .good)
-
--- src/inner.rt:112:9
-sub-left : tie.Need-sub-left Inv-loop μ-loop
-sub-left c = omega (arith, c .before .before .loop-test .taken)
-
--- src/inner.rt:109:5
-loop-less : tie.Need-loop-less Inv-loop μ-loop
-loop-less c = omega (arith, c .before .before .loop-test .taken)
-
--- src/inner.rt:109:5
-loop-again : tie.Need-loop-again Inv-loop μ-loop
-loop-again c =
-    let l = c .before .before .before .loop in
-    let u = c .before .get-unit in
-    let n = c .narrow-length in
-    measuring-more (l .inv) (c .before .before .loop-test .taken) (u .result) (n .result) (u .ensures .0) (n .ensures .0) (n .ensures .1)
-
--- src/inner.rt:102:1
-returns : tie.Need-returns Inv-loop μ-loop
-returns c = measuring-done (c .before .loop .inv) (omega arith)
-
 pub narrowed-length-spec : {M : Type 1} → statement M
 narrowed-length-spec =
     tie.close
     (tie.spec
     Inv-loop
     μ-loop
-    div-left
-    loop-holds
-    get-unit-requires
-    narrow-length-requires
-    add-size
-    add-from
-    sub-left
-    loop-less
-    loop-again
-    returns)
+    (λ c. omega arith)
+    (λ c. let a = c .before in measuring-start (a .args .w) (a .args .source .now) (a .pre .1) (a .pre .2))
+    (λ c κs. (c .before .before .before .pre .0, remaining-within (c .before .loop .inv .units) (c .loop-test .taken)))
+    (λ c κs. c .before .before .before .before .pre .0)
+    (λ c. omega (arith, measuring-few (c .before .before .before .loop .inv)))
+    (λ c. omega (arith, remaining-within (c .before .before .before .loop .inv .units) (c .before .before .loop-test .taken)))
+    (λ c. omega arith)
+    (λ c. omega arith)
+    (λ c. let u = c .before .get-unit in let n = c .narrow-length in measuring-more (c .before .before .before .loop .inv) (c .before .before .loop-test .taken) (u .result) (n .result) (u .ensures .0) (n .ensures .0) (n .ensures .1))
+    (λ c. measuring-done (c .before .loop .inv) (omega arith)))

@@ -39,5 +39,12 @@ module _ {at to : ℕ} {come goal out₀ out : List ℕ} (f : Filling at to come
       is = d ∙ rw (f .is, f .place) (put-put at (f .made) u out₀ (omega (arith, sum, f .fits)));
     }
 
-  pub filling-done : come ≡ [] → out ≡ putAt at goal out₀
-  filling-done e = f .is ∙ ap (λ (l : List ℕ). putAt at l out₀) (sym (append-nil (f .made)) ∙ ap (λ (l : List ℕ). f .made ++ l) (sym e) ∙ f .goes)
+  module _ (e : come ≡ []) where
+    all : f .made ≡ goal
+    all = sym (append-nil (f .made)) ∙ ap (λ (l : List ℕ). f .made ++ l) (sym e) ∙ f .goes
+
+    pub filling-done : out ≡ putAt at goal out₀
+    filling-done = f .is ∙ ap (λ (l : List ℕ). putAt at l out₀) all
+
+    pub filling-count : to ≡ at + length goal
+    filling-count = f .place ∙ ap (λ (l : List ℕ). at + length l) all

@@ -17,7 +17,7 @@ use Rattle.filter_format.specs.Narrow.{extended, widen, lacking, begun}
 use Rattle.filter_format.proofs.Narrowing.{widen-whole, lacking-whole, begun-whole, widen-long, widen-short, lacking-long, lacking-short, begun-long, begun-short, enough, extended-seen}
 use Rattle.filter_narrow.specs.declared.Counted.the-variants.{Units, Lacking}
 use Rattle.filter_narrow.specs.Counted.{counted}
-use Rattle.filter_narrow.proofs.Filling.{Filling, filling-start, filling-same, filling-room, filling-more, filling-done}
+use Rattle.filter_narrow.proofs.Filling.{Filling, filling-start, filling-same, filling-room, filling-more, filling-done, filling-count}
 
 -- the unit that begins at place i of the data s has the bytes u, and the next one begins at j
 pub record Turn (w i j : ℕ) (u s : List ℕ) : Type 0 where
@@ -129,9 +129,9 @@ module _ {w i to : ℕ} {s out₀ out : List ℕ} (m : Widening w i to s out₀ 
       within = t .within;
     }
 
-  pub widening-done : length s ≤ i → out ≡ putAt 0 (widen w 0 s) out₀
+  pub widening-done : length s ≤ i → (to ≡ length (widen w 0 s)) × (out ≡ putAt 0 (widen w 0 s) out₀)
   unfolding widen
-  widening-done h = filling-done (m .filling) (ap (widen w 0) (drop-of-length-le s h))
+  widening-done h = let none = ap (widen w 0) (drop-of-length-le s h) in (filling-count (m .filling) none ∙ omega arith, filling-done (m .filling) none)
 
 -- what is put of a unit: its byte's value at 32 bits, or what stands after the byte 128
 pub short-bytes : (w c v : ℕ) → IsWidth w → c < 256 → v ≡ extended 4 c → bytesOf w v ≡ bytesOf w (extended w c)

@@ -43,10 +43,10 @@ fn extend(c: u8) -> u32
     }
 }
 
-// The units of the source, each whole, at the front.
-pub fn put_widened(out: &mut [u8], source: &[u8], w: usize)
+// The units of the source, each whole, at the front; answers how many bytes they take.
+pub fn put_widened(out: &mut [u8], source: &[u8], w: usize) -> usize
     requires { ⌜ (IsWidth w) × (lacking w 0 (now source) ≡ 0) × (length (widen w 0 (now source)) ≤ length (now out)) ⌝ }
-    ensures { λ _. ⌜ now (out .exit) ≡ putAt 0 (widen w 0 (now (source .entry))) (now (out .entry)) ⌝ }
+    ensures { λ r. ⌜ (r ≡ length (widen w 0 (now (source .entry)))) × (now (out .exit) ≡ putAt 0 (widen w 0 (now (source .entry))) (now (out .entry))) ⌝ }
 {
     let mut from: usize = 0;
     let mut to: usize = 0;
@@ -62,6 +62,7 @@ pub fn put_widened(out: &mut [u8], source: &[u8], w: usize)
             to += w;
         }
     }
+    to
 }
 
 // -127 in w bytes.

@@ -1,12 +1,19 @@
--- The tests of a block's data and of the room, by themselves: the end of `contentsTest`. Assumes nothing: these are definitions.
-use Prim.Native.Nat.{ℕ}
+-- What the code asks of a block. Assumes nothing: these are definitions.
+use Prim.Native.Nat.{ℕ, _≤_}
+use mathlib.Core.Path.{_≡_}
+use mathlib.Core.Bool.{false}
 use mathlib.Core.List.{List}
 use lib.ListN.{length}
 use lib.Dec.{ltb}
 use Rattle.answers.specs.declared.Answer.{Answer}
 use Rattle.answers.specs.Answer.{when, _then_}
 use Rattle.filter_format.specs.declared.Filter.{Filter}
-use Rattle.filter_format.specs.Block.{dataAt, badData, undone}
+use Rattle.filter_format.specs.Block.{Known, headerLength, dataAt, badData, undone}
 
+-- the tests of the data and of the room, the end of `contentsTest`
 unfoldable pub dataTest : Filter → ℕ → List ℕ → Answer
 dataTest f room b = when (badData f (dataAt f b)) 43 0 then when (ltb room (length (undone f b))) 26 0
+
+-- a block that passed its tests, as its filter's undoing requires it
+abbrev pub Opens : Filter → List ℕ → ℕ → Type 0
+Opens f b room = (Known f) × (headerLength f ≤ length b) × (badData f (dataAt f b) ≡ false) × (length (undone f b) ≤ room)

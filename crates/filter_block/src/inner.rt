@@ -4,15 +4,20 @@ ghost use Prim.Native.Nat.{_*_, _<_, _≤_};
 ghost use lib.Dec.{ltb};
 ghost use lib.ListN.{length};
 ghost use Rattle.answers.specs.Answer.{when};
-ghost use Rattle.filter_format.specs.declared.Filter.the-variants.{Delta, Narrow};
+ghost use Rattle.filter_format.specs.declared.Filter.the-variants.{Raw, Delta, Narrow, Follow};
 ghost use Rattle.filter_format.specs.Units.{IsWidth};
-ghost use Rattle.filter_format.specs.Block.{filterOf, Known, filterAt, isRaw, isFilter, headerLength, badLevel, badHeader, contentsTest};
-ghost use Rattle.filter_block.specs.Tests.{dataTest};
+ghost use Rattle.filter_format.specs.Block.{filterOf, Known, filterAt, isRaw, isFilter, headerLength, badLevel, badHeader, undone, contentsTest};
+ghost use Rattle.filter_block.specs.Tests.{dataTest, Opens};
+ghost use Rattle.octets.specs.Parts.{putAt};
 use answers::Answer;
+use filter_delta::inner::put_undone;
+use filter_follow::inner::put_unfollowed;
 use filter_format::Filter;
 use filter_narrow::Counted;
 use filter_narrow::inner::count_units;
+use filter_narrow::inner::put_widened;
 use octets::ByteTest;
+use octets::copy;
 use octets::first_not;
 use octets::wide;
 
@@ -187,4 +192,52 @@ pub fn contents_test(filter: Filter, block: &[u8], room: usize) -> Answer
         return Answer::Refused(42, 0);
     }
     data_test(filter, block, room)
+}
+
+fn undo_raw(out: &mut [u8], block: &[u8]) -> usize
+    requires { ⌜ Opens Raw (now block) (length (now out)) ⌝ }
+    ensures { λ r. ⌜ (r ≡ length (undone Raw (now (block .entry)))) × (now (out .exit) ≡ putAt 0 (undone Raw (now (block .entry))) (now (out .entry))) ⌝ }
+{
+    let n = block.len() - 1;
+    copy(out, 0, block, 1, n);
+    n
+}
+
+fn undo_delta(out: &mut [u8], block: &[u8], w: usize) -> usize
+    requires { ⌜ Opens (Delta w) (now block) (length (now out)) ⌝ }
+    ensures { λ r. ⌜ (r ≡ length (undone (Delta w) (now (block .entry)))) × (now (out .exit) ≡ putAt 0 (undone (Delta w) (now (block .entry))) (now (out .entry))) ⌝ }
+{
+    let start = header_length(Filter::Delta(w));
+    let level = wide(block[1]);
+    put_undone(out, 0, &block[start..], w, level);
+    block.len() - start
+}
+
+fn undo_narrow(out: &mut [u8], block: &[u8], w: usize) -> usize
+    requires { ⌜ Opens (Narrow w) (now block) (length (now out)) ⌝ }
+    ensures { λ r. ⌜ (r ≡ length (undone (Narrow w) (now (block .entry)))) × (now (out .exit) ≡ putAt 0 (undone (Narrow w) (now (block .entry))) (now (out .entry))) ⌝ }
+{
+    put_widened(out, &block[1..], w)
+}
+
+fn undo_follow(out: &mut [u8], block: &[u8]) -> usize
+    requires { ⌜ Opens Follow (now block) (length (now out)) ⌝ }
+    ensures { λ r. ⌜ (r ≡ length (undone Follow (now (block .entry)))) × (now (out .exit) ≡ putAt 0 (undone Follow (now (block .entry))) (now (out .entry))) ⌝ }
+{
+    put_unfollowed(out, &block[257..], &block[1..257]);
+    block.len() - 257
+}
+
+// A block that passed its tests, its filter undone, at the front of `out`; answers how many bytes that makes.
+pub fn undo_filter(out: &mut [u8], filter: Filter, block: &[u8]) -> usize
+    requires { ⌜ Opens filter (now block) (length (now out)) ⌝ }
+    ensures { λ r. ⌜ (r ≡ length (undone filter (now (block .entry)))) × (now (out .exit) ≡ putAt 0 (undone filter (now (block .entry))) (now (out .entry))) ⌝ }
+{
+    match filter {
+        Filter::Raw => undo_raw(out, block),
+        Filter::Delta(w) => undo_delta(out, block, w),
+        Filter::Narrow(w) => undo_narrow(out, block, w),
+        Filter::Follow => undo_follow(out, block),
+        Filter::Other => 0,
+    }
 }

@@ -2,45 +2,35 @@ use Rattle.filter_format.specs.Block.{filterOf}
 use Rattle.answers.proofs.Answers.{tests}
 use Rattle.filter_block.proofs.inner.filter_of.Statement.{statement}
 use Rattle.filter_block.proofs.inner.filter_of.Tie as tie
-use Rattle.filter_block.proofs.inner.filter_of.Reads as reads
-use Rattle.filter_block.proofs.inner.filter_of.Lts as lts
 
--- src/inner.rt:17:9
 returns : tie.Need-returns
 unfolding filterOf
 returns c = search tests
 
--- src/inner.rt:20:9
 returns-2 : tie.Need-returns-2
 unfolding filterOf
 returns-2 c = search tests
 
--- src/inner.rt:23:9
 returns-3 : tie.Need-returns-3
 unfolding filterOf
 returns-3 c = search tests
 
--- src/inner.rt:26:9
 returns-4 : tie.Need-returns-4
 unfolding filterOf
 returns-4 c = search tests
 
--- src/inner.rt:29:9
 returns-5 : tie.Need-returns-5
 unfolding filterOf
 returns-5 c = search tests
 
--- src/inner.rt:32:9
 returns-6 : tie.Need-returns-6
 unfolding filterOf
 returns-6 c = search tests
 
--- src/inner.rt:35:9
 returns-7 : tie.Need-returns-7
 unfolding filterOf
 returns-7 c = search tests
 
--- src/inner.rt:13:1
 returns-8 : tie.Need-returns-8
 unfolding filterOf
 returns-8 c = search tests

@@ -1,59 +1,31 @@
 use native.Mathlib.Omega.{arith}
-use mathlib.Core.Path.{refl, sym}
+use mathlib.Core.Path.{refl}
 use Rattle.filter_format.specs.Block.{headerLength}
 use borrow.Author.Tests.{eq-eqb, ne-eqb}
 use borrow.Author.Needs.{needs}
 use Rattle.filter_block.proofs.inner.header_length.Statement.{statement}
 use Rattle.filter_block.proofs.inner.header_length.Tie as tie
-use Rattle.filter_block.proofs.inner.header_length.Reads as reads
-use Rattle.filter_block.proofs.inner.header_length.Lts as lts
 
--- src/inner.rt:79:24
-enum-told : tie.Need-enum-told
-enum-told c = search needs
-
--- src/inner.rt:80:23
-enum-known-filter : tie.Need-enum-known-filter
-enum-known-filter c = search needs
-
--- src/inner.rt:81:24
-enum-known-filter-2 : tie.Need-enum-known-filter-2
-enum-known-filter-2 c = search needs
-
--- src/inner.rt:82:27
-enum-told-2 : tie.Need-enum-told-2
-enum-told-2 c = search needs
-
--- src/inner.rt:83:26
-enum-told-3 : tie.Need-enum-told-3
-enum-told-3 c = search needs
-
--- src/inner.rt:75:1
 returns : tie.Need-returns
 unfolding headerLength
 returns c = rw (c .enum-told .given .1) (refl, omega arith)
 
--- src/inner.rt:75:1
 returns-2 : tie.Need-returns-2
 unfolding headerLength
 returns-2 c = rw (c .before .before .filter .given .1, eq-eqb _ 4 (c .if1 .taken)) (refl, omega arith)
 
--- src/inner.rt:75:1
 returns-3 : tie.Need-returns-3
 unfolding headerLength
 returns-3 c = rw (c .before .before .filter .given .1, ne-eqb _ 4 (c .if1 .left)) (refl, omega arith)
 
--- src/inner.rt:75:1
 returns-4 : tie.Need-returns-4
 unfolding headerLength
 returns-4 c = rw (c .before .filter2 .given .1) (refl, omega arith)
 
--- src/inner.rt:75:1
 returns-5 : tie.Need-returns-5
 unfolding headerLength
 returns-5 c = rw (c .enum-told2 .given .1) (refl, omega arith)
 
--- src/inner.rt:75:1
 returns-6 : tie.Need-returns-6
 unfolding headerLength
 returns-6 c = rw (c .enum-told3 .given .1) (refl, omega arith)
@@ -62,11 +34,11 @@ pub header-length-spec : {M : Type 1} → statement M
 header-length-spec =
     tie.close
     (tie.spec
-    enum-told
-    enum-known-filter
-    enum-known-filter-2
-    enum-told-2
-    enum-told-3
+    (λ c. search needs)
+    (λ c. search needs)
+    (λ c. search needs)
+    (λ c. search needs)
+    (λ c. search needs)
     returns
     returns-2
     returns-3

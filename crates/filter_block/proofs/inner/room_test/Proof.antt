@@ -2,15 +2,11 @@ use Rattle.answers.specs.Answer.{when}
 use Rattle.answers.proofs.Answers.{tests}
 use Rattle.filter_block.proofs.inner.room_test.Statement.{statement}
 use Rattle.filter_block.proofs.inner.room_test.Tie as tie
-use Rattle.filter_block.proofs.inner.room_test.Reads as reads
-use Rattle.filter_block.proofs.inner.room_test.Lts as lts
 
--- src/inner.rt:126:9
 returns : tie.Need-returns
 unfolding when
 returns c = search tests
 
--- src/inner.rt:122:1
 returns-2 : tie.Need-returns-2
 unfolding when
 returns-2 c = search tests

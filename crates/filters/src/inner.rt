@@ -1,0 +1,156 @@
+// No entry points: the blocks here stand in one of the two lent buffers. `choose` and `layer` call each other; at each layer the buffers change places and
+// one filter less may be opened.
+ghost use mathlib.Core.Path.{_≡_};
+ghost use mathlib.Core.Bool.{not, true};
+ghost use Prim.Native.Nat.{_-_, _<_, _≤_, min};
+ghost use lib.ListN.{length, take};
+ghost use Rattle.octets.specs.Parts.{part, filled};
+ghost use Rattle.answers.specs.declared.Answer.the-variants.{Refused};
+ghost use Rattle.filter_format.specs.Block.{filterAt, undone};
+ghost use Rattle.filter_format.specs.Undo.{filtered, refusing, making, secondAfter, roomOf, blockTest, layerTest, undoFrom};
+ghost use Rattle.filter_block.specs.Tests.{Opens};
+ghost use Rattle.filters.specs.Sides.{Undid};
+use answers::Answer;
+use filter_block::inner::contents_test;
+use filter_block::inner::filter_at;
+use filter_block::inner::is_filter;
+use filter_block::inner::is_raw;
+use filter_block::inner::undo_filter;
+use filter_format::Filter;
+use filter_format::Filtered;
+use octets::copy;
+use octets::fill;
+use octets::move_down;
+
+pub fn smaller(x: usize, y: usize) -> usize
+    ensures { λ r. ⌜ r ≡ min x y ⌝ }
+{
+    if x <= y { x } else { y }
+}
+
+// The tests of a block in a chain, where `left` filters may still be opened.
+pub fn block_test(filter: Filter, block: &[u8], left: usize, room: usize) -> Answer
+    requires { ⌜ filter ≡ filterAt (now block) ⌝ }
+    ensures { λ r. ⌜ r ≡ blockTest left room (now (block .entry)) ⌝ }
+{
+    if block.len() == 0 {
+        return Answer::Refused(40, 0);
+    }
+    let raw = is_raw(filter);
+    let filters = is_filter(filter);
+    if !raw & !filters {
+        return Answer::Refused(41, 0);
+    }
+    if filters & (left == 0) {
+        return Answer::Refused(44, 0);
+    }
+    contents_test(filter, block, room)
+}
+
+// The tests of a layer that is undone alone.
+pub fn layer_test(filter: Filter, block: &[u8], room: usize) -> Answer
+    requires { ⌜ filter ≡ filterAt (now block) ⌝ }
+    ensures { λ r. ⌜ r ≡ layerTest room (now (block .entry)) ⌝ }
+{
+    if block.len() == 0 {
+        return Answer::Refused(40, 0);
+    }
+    if !is_filter(filter) {
+        return Answer::Refused(41, 0);
+    }
+    contents_test(filter, block, room)
+}
+
+// Zeros behind the first n bytes.
+pub fn clear_behind(s: &mut [u8], n: usize)
+    requires { ⌜ n ≤ length (now s) ⌝ }
+    ensures { λ _. ⌜ now (s .exit) ≡ filled (length (now (s .entry))) (take n (now (s .entry))) ⌝ }
+{
+    let end = s.len();
+    fill(s, n, end, 0);
+}
+
+// A refusal zeroes both buffers.
+pub fn refuse(here: &mut [u8], there: &mut [u8], number: u8, place: usize) -> Filtered
+    ensures { λ r. ⌜ (r ≡ filtered (refusing (Refused number place))) × (now (here .exit) ≡ secondAfter (now (here .entry))) × (now (there .exit) ≡ secondAfter (now (there .entry))) ⌝ }
+{
+    clear_behind(here, 0);
+    clear_behind(there, 0);
+    Filtered {
+        answer: Answer::Refused(number, place),
+        made: 0,
+    }
+}
+
+// The n bytes of data behind the format byte of `here`, which is the caller's first buffer.
+fn keep(here: &mut [u8], there: &mut [u8], n: usize) -> Filtered
+    requires { ⌜ n < length (now here) ⌝ }
+    ensures { λ r. ⌜ Undid (making (part 1 n (now (here .entry)))) true (now (here .entry)) (now (here .exit)) (now (there .entry)) (now (there .exit)) r ⌝ }
+{
+    move_down(here, 1, 0, n);
+    clear_behind(here, n);
+    clear_behind(there, 0);
+    Filtered {
+        answer: Answer::Accepted,
+        made: n,
+    }
+}
+
+// The same where `there` is the first.
+fn hand_over(here: &mut [u8], there: &mut [u8], n: usize) -> Filtered
+    requires { ⌜ (n < length (now here)) × (n ≤ length (now there)) ⌝ }
+    ensures { λ r. ⌜ Undid (making (part 1 n (now (here .entry)))) true (now (there .entry)) (now (there .exit)) (now (here .entry)) (now (here .exit)) r ⌝ }
+{
+    copy(there, 0, here, 1, n);
+    clear_behind(there, n);
+    clear_behind(here, 0);
+    Filtered {
+        answer: Answer::Accepted,
+        made: n,
+    }
+}
+
+// The block in the first `len` bytes of `here`, by its format. `is_first` says whether `here` is the caller's first buffer.
+pub fn choose(
+    here: &mut [u8],
+    there: &mut [u8],
+    len: usize,
+    left: usize,
+    is_first: bool,
+) -> Filtered
+    requires { ⌜ len ≤ length (now here) ⌝ }
+    ensures { λ r. ⌜ Undid (undoFrom left (roomOf (now (here .entry)) (now (there .entry))) (take len (now (here .entry)))) «is_first»
+        (now (here .entry)) (now (here .exit)) (now (there .entry)) (now (there .exit)) r ⌝ }
+{
+    let room = smaller(here.len(), there.len());
+    let filter = filter_at(&here[..len]);
+    let answer = block_test(filter, &here[..len], left, room);
+    if let Answer::Refused(number, place) = answer {
+        return refuse(here, there, number, place);
+    }
+    if !is_raw(filter) {
+        return layer(here, there, len, left, is_first, filter);
+    }
+    if is_first {
+        keep(here, there, len - 1)
+    } else {
+        hand_over(here, there, len - 1)
+    }
+}
+
+// The layer in the first `len` bytes of `here`, undone into `there`: its block is chosen for next.
+fn layer(
+    here: &mut [u8],
+    there: &mut [u8],
+    len: usize,
+    left: usize,
+    is_first: bool,
+    filter: Filter,
+) -> Filtered
+    requires { ⌜ (0 < left) × (len ≤ length (now here)) × (Opens filter (take len (now here)) (length (now there))) ⌝ }
+    ensures { λ r. ⌜ Undid (undoFrom (left - 1) (roomOf (now (here .entry)) (now (there .entry))) (undone filter (take len (now (here .entry))))) «is_first»
+        (now (here .entry)) (now (here .exit)) (now (there .entry)) (now (there .exit)) r ⌝ }
+{
+    let made = undo_filter(there, filter, &here[..len]);
+    choose(there, here, made, left - 1, !is_first)
+}

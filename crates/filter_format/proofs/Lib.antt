@@ -5,3 +5,4 @@ pub mod Narrowing
 pub mod Following
 pub mod Blocks
 pub mod Layers
+pub mod Sampled

@@ -1,6 +1,6 @@
 -- SCF samples: either way undoes the other. Assumes nothing.
 use mathlib.Core.Path.{_≡_, refl, ap, _∙_}
-use mathlib.Core.Bool.{Bool, true, false, _||_}
+use mathlib.Core.Bool.{Bool, true, false, not, _||_}
 use mathlib.Core.List.{List}
 use Prim.Native.Nat.{ℕ, _%_, _<_, _≤_}
 use native.Mathlib.Omega.{arith}
@@ -17,16 +17,20 @@ use Rattle.filter_format.specs.Samples.{samplesTest, encodeSamples, undo
 use Rattle.filter_format.proofs.Levels.{length-delta, length-undelta, undelta-delta-bytes, delta-undelta-bytes}
 use Rattle.filter_format.proofs.Layers.{tested-ok, tested-makes}
 
-precise : (p : ℕ) (t u : Bool) → eqb p 1 ≡ t → eqb p 2 ≡ u → (t || u) ≡ true → IsWidth p
-precise p true u e f h = let k = eqb-true p 1 e in (omega arith, omega arith, λ q. omega arith)
-precise p false true e f h = let k = eqb-true p 2 f in (omega arith, omega arith, λ q. omega arith)
-precise p false false e f h = let z : _≡_ {A = ℕ} 0 1 = cc in absurd (omega arith)
+-- a precision that is one is a width
+pub precision-width : (p : ℕ) → not (eqb p 1 || eqb p 2) ≡ false → IsWidth p
+precision-width p e = go (eqb p 1) (eqb p 2) refl refl (not-false _ e)
+  where
+    go : (t u : Bool) → eqb p 1 ≡ t → eqb p 2 ≡ u → (t || u) ≡ true → IsWidth p
+    go true u f g h = let k = eqb-true p 1 f in (omega arith, omega arith, λ q. omega arith)
+    go false true f g h = let k = eqb-true p 2 g in (omega arith, omega arith, λ q. omega arith)
+    go false false f g h = let z : _≡_ {A = ℕ} 0 1 = cc in absurd (omega arith)
 
 -- the tests, one by one
 module _ (room precision : ℕ) (s : List ℕ) (ok : samplesTest room precision s ≡ Accepted) where
   pub samples-width : IsWidth precision
   unfolding samplesTest
-  samples-width = precise precision (eqb precision 1) (eqb precision 2) refl refl (not-false _ (when-ok _ _ _ (first-ok _ _ ok)))
+  samples-width = precision-width precision (when-ok _ _ _ (first-ok _ _ ok))
 
   pub samples-whole : length s % precision ≡ 0
   unfolding samplesTest

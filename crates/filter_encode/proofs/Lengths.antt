@@ -1,4 +1,4 @@
--- How long a block is, of whose parts, and that its header's numbers are bytes. Assumes nothing.
+-- How long a block is, and that the numbers in its header are bytes. Assumes nothing.
 use mathlib.Core.Path.{_≡_, refl, ap}
 use mathlib.Core.Bool.{Bool, true, false, cond, _&&_}
 use mathlib.Core.List.{List, [], _∷_}
@@ -31,7 +31,7 @@ unfolding followed
 length-followed follow [] = refl
 length-followed follow (x ∷ xs) = ap suc (length-scan (predicted follow) latest x xs)
 
-pub length-data : (f : Filter) (level : ℕ) (follow s : List ℕ) → Known f → badUnits f s ≡ false → length (encodedData f level follow s) ≡ dataLength f s
+length-data : (f : Filter) (level : ℕ) (follow s : List ℕ) → Known f → badUnits f s ≡ false → length (encodedData f level follow s) ≡ dataLength f s
 unfolding encodedData dataLength badUnits
 length-data Raw level follow s k e = refl
 length-data (Delta w) level follow s k e = length-delta w (k .0) s (whole-units w s e) level

@@ -5,3 +5,5 @@ pub mod Narrowing
 pub mod Following
 pub mod Blocks
 pub mod Layers
+pub mod Results
+pub mod Sampled

@@ -1,155 +1,38 @@
-// C exports of the library's calls, for tests alone: each copies out what its call answers. No host calls them.
+// C exports of the library's calls, for tests and benchmarks alone. No host calls them.
 ghost use mathlib.Core.Path.{_≡_};
 ghost use lib.ListN.{length};
 ghost use Rattle.answers.specs.Answer.{numberOf, placeOf};
 ghost use Rattle.sff_format.specs.FileTest.{fileTest};
-ghost use Rattle.sff_format.specs.Step.{fresh, step, found, stop};
+ghost use Rattle.sff_format.specs.Step.{fresh, step};
 ghost use Rattle.sff_format.specs.Position.{positionTest, signalTest, fileInsert, fileFirst, fileLast};
 ghost use Rattle.sff_format.specs.Writing.{newOutcome, newBuffer, readOf, appendOutcome, appendBuffer};
 ghost use Rattle.sff_correction.specs.Correct.{correctOutcome, correctBuffer};
 ghost use Rattle.sff_correction.specs.ListRun.{runList};
-ghost use Rattle.sff_reader.specs.Forms.{stateOf};
 ghost use Rattle.sff_signal.specs.Signal.{fileSignal};
-ghost use Rattle.harness.specs.Outs.{stateFrom, flag, viewClips, SmallClips, steppedWith, steppedOf, putFront, clipsFrom};
-use answers::Answer;
-use octets::copy;
-use sff::file_test;
-use sff_corrector::correct;
-use sff_corrector::correct_list;
-use sff_find::position_test;
-use sff_format::Clips;
-use sff_format::ReadView;
-use sff_insert::insert;
-use sff_insert::insert_ends;
-use sff_reader::Reader;
-use sff_reader::Step;
-use sff_signal::signal;
-use sff_signal::signal_test;
-use sff_writer::append;
-use sff_writer::new_file;
-
-fn wide(x: u8) -> u64
-    ensures { λ r. ⌜ r ≡ x ⌝ }
-{
-    x as u64
-}
-
-fn number_of(answer: Answer) -> u64
-    ensures { λ r. ⌜ r ≡ numberOf answer ⌝ }
-{
-    let Answer::Refused(number, place) = answer else {
-        return 0;
-    };
-    wide(number)
-}
-
-fn place_of(answer: Answer) -> u64
-    ensures { λ r. ⌜ r ≡ placeOf answer ⌝ }
-{
-    let Answer::Refused(number, place) = answer else {
-        return 0;
-    };
-    place as u64
-}
+ghost use Rattle.filter_format.specs.Undo.{roomOf, firstAfter, secondAfter, undo, undoLayer};
+ghost use Rattle.filter_format.specs.Encode.{encode, outAfter};
+ghost use Rattle.harness_files.specs.Outs.{stateFrom, flag, steppedWith, steppedOf, putFront, clipsFrom};
+ghost use Rattle.harness_filters.specs.Samples.{samples};
+use harness_corrections::correct_list_out;
+use harness_corrections::correct_out;
+use harness_files::append_out;
+use harness_files::fresh_out;
+use harness_files::insert_out;
+use harness_files::new_out;
+use harness_files::signal_out;
+use harness_files::step_out;
+use harness_files::test_out;
+use harness_filters::encode_out;
+use harness_filters::samples_out;
+use harness_filters::undo_layer_out;
+use harness_filters::undo_out;
 
 #[no_mangle]
 pub extern "C" fn h_test(file: &[u8], place: &mut u64) -> u64
     ensures { λ r. ⌜ r ≡ numberOf (fileTest (now (file .entry))) ⌝ }
     ensures { λ _. ⌜ now (place .exit) ≡ placeOf (fileTest (now (file .entry))) ⌝ }
 {
-    let answer = file_test(file);
-    *place = place_of(answer);
-    number_of(answer)
-}
-
-// What a step leaves, as numbers.
-struct Stepped {
-    number: u64,
-    place: u64,
-    at: u64,
-    passed: u64,
-    index_passed: u64,
-    read_start: u64,
-    name_length: u64,
-    bases: u64,
-    clips: u64,
-}
-
-fn flag_of(x: bool) -> u64
-    ensures { λ r. ⌜ r ≡ flag x ⌝ }
-{
-    if x { 1 } else { 0 }
-}
-
-fn clips_of(view: ReadView) -> u64
-    requires { ⌜ SmallClips view ⌝ }
-    ensures { λ r. ⌜ r ≡ viewClips view ⌝ }
-{
-    let quality = view.quality_left * 65536 + view.quality_right;
-    let adapter = view.adapter_left * 65536 + view.adapter_right;
-    (quality * 4294967296 + adapter) as u64
-}
-
-fn read_found(view: ReadView, next: Reader) -> Stepped
-    requires { ⌜ SmallClips view ⌝ }
-    ensures { λ r. ⌜ r ≡ steppedOf (found view (stateOf next)) ⌝ }
-{
-    Stepped {
-        number: 0,
-        place: 0,
-        at: next.place as u64,
-        passed: next.passed_reads as u64,
-        index_passed: flag_of(next.passed_index),
-        read_start: view.place as u64,
-        name_length: view.name.size as u64,
-        bases: view.bases.size as u64,
-        clips: clips_of(view),
-    }
-}
-
-fn read_refused(number: u8, place: usize, unmoved: Reader) -> Stepped
-    ensures { λ r. ⌜ r ≡ steppedOf (stop number place (stateOf unmoved)) ⌝ }
-{
-    Stepped {
-        number: wide(number),
-        place: place as u64,
-        at: unmoved.place as u64,
-        passed: unmoved.passed_reads as u64,
-        index_passed: flag_of(unmoved.passed_index),
-        read_start: 0,
-        name_length: 0,
-        bases: 0,
-        clips: 0,
-    }
-}
-
-fn step_on(file: &[u8], reader: Reader) -> Stepped
-    ensures { λ r. ⌜ r ≡ steppedOf (step (now (file .entry)) (stateOf reader)) ⌝ }
-{
-    let step = reader.step(file);
-    match step {
-        Step::Found(view, next) => read_found(view, next),
-        Step::Stopped(number, place, unmoved) => read_refused(number, place, unmoved),
-    }
-}
-
-#[no_mangle]
-pub extern "C" fn h_fresh(
-    file: &[u8],
-    at: &mut u64,
-    passed: &mut u64,
-    index_passed: &mut u64,
-) -> u64
-    ensures { λ r. ⌜ r ≡ 0 ⌝ }
-    ensures { λ _. ⌜ now (at .exit) ≡ fresh (now (file .entry)) .place ⌝ }
-    ensures { λ _. ⌜ now (passed .exit) ≡ fresh (now (file .entry)) .passed-reads ⌝ }
-    ensures { λ _. ⌜ now («index_passed» .exit) ≡ flag (fresh (now (file .entry)) .passed-index) ⌝ }
-{
-    let reader = Reader::fresh(file);
-    *at = reader.place as u64;
-    *passed = reader.passed_reads as u64;
-    *index_passed = flag_of(reader.passed_index);
-    0
+    test_out(file, place)
 }
 
 // The state comes in and goes out by `at`, `passed` and `index_passed`; `place` is the refusal's, and the last four speak of the read.
@@ -168,42 +51,32 @@ pub extern "C" fn h_step(
     ensures { λ r. ⌜ steppedWith r (now (place .exit)) (now (at .exit)) (now (passed .exit)) (now («index_passed» .exit)) (now («read_start» .exit)) (now («name_length» .exit)) (now (bases .exit)) (now (clips .exit))
         ≡ steppedOf (step (now (file .entry)) (stateFrom (now (at .entry)) (now (passed .entry)) (now («index_passed» .entry)))) ⌝ }
 {
-    let reader = Reader {
-        place: *at as usize,
-        passed_reads: *passed as usize,
-        passed_index: *index_passed != 0,
-    };
-    let step = step_on(file, reader);
-    *at = step.at;
-    *passed = step.passed;
-    *index_passed = step.index_passed;
-    *place = step.place;
-    *read_start = step.read_start;
-    *name_length = step.name_length;
-    *bases = step.bases;
-    *clips = step.clips;
-    step.number
+    step_out(
+        file,
+        at,
+        passed,
+        index_passed,
+        place,
+        read_start,
+        name_length,
+        bases,
+        clips,
+    )
 }
 
-fn put_front(out: &mut [u8], bytes: &[u8])
-    ensures { λ _. ⌜ now (out .exit) ≡ putFront (now (bytes .entry)) (now (out .entry)) ⌝ }
+#[no_mangle]
+pub extern "C" fn h_fresh(
+    file: &[u8],
+    at: &mut u64,
+    passed: &mut u64,
+    index_passed: &mut u64,
+) -> u64
+    ensures { λ r. ⌜ r ≡ 0 ⌝ }
+    ensures { λ _. ⌜ now (at .exit) ≡ fresh (now (file .entry)) .place ⌝ }
+    ensures { λ _. ⌜ now (passed .exit) ≡ fresh (now (file .entry)) .passed-reads ⌝ }
+    ensures { λ _. ⌜ now («index_passed» .exit) ≡ flag (fresh (now (file .entry)) .passed-index) ⌝ }
 {
-    let n = bytes.len();
-    if out.len() < n {
-        return;
-    }
-    copy(out, 0, bytes, 0, n);
-}
-
-fn clips_from(x: u64) -> Clips
-    ensures { λ r. ⌜ r ≡ clipsFrom x ⌝ }
-{
-    Clips {
-        quality_left: (x / 281474976710656 % 65536) as u16,
-        quality_right: (x / 4294967296 % 65536) as u16,
-        adapter_left: (x / 65536 % 65536) as u16,
-        adapter_right: (x % 65536) as u16,
-    }
+    fresh_out(file, at, passed, index_passed)
 }
 
 // The bases go to the front of `out` if it has room for them all; if not it stays as it is. `made` is how many they are in either case.
@@ -224,16 +97,7 @@ pub extern "C" fn h_insert(
     ensures { λ _. ⌜ now (made .exit) ≡ length (fileInsert (now (file .entry)) position) ⌝ }
     ensures { λ _. ⌜ now (out .exit) ≡ putFront (fileInsert (now (file .entry)) position) (now (out .entry)) ⌝ }
 {
-    let at = position as usize;
-    let answer = position_test(file, at);
-    let ends = insert_ends(file, at);
-    let bases = insert(file, at);
-    *place = place_of(answer);
-    *first = ends.first.0 as u64;
-    *last = ends.last.0 as u64;
-    *made = bases.len() as u64;
-    put_front(out, bases);
-    number_of(answer)
+    insert_out(file, position, out, place, first, last, made)
 }
 
 #[no_mangle]
@@ -251,14 +115,7 @@ pub extern "C" fn h_signal(
     ensures { λ _. ⌜ now (weakest .exit) ≡ fileSignal (now (file .entry)) position .weakest ⌝ }
     ensures { λ _. ⌜ now (mean .exit) ≡ fileSignal (now (file .entry)) position .mean ⌝ }
 {
-    let at = position as usize;
-    let answer = signal_test(file, at);
-    let summary = signal(file, at);
-    *place = place_of(answer);
-    *strongest = summary.strongest;
-    *weakest = summary.weakest;
-    *mean = summary.mean;
-    number_of(answer)
+    signal_out(file, position, strongest, weakest, mean, place)
 }
 
 // `length` is the file's length afterwards.
@@ -275,11 +132,7 @@ pub extern "C" fn h_new(
     ensures { λ _. ⌜ now (length .exit) ≡ newOutcome (now (buffer .entry)) (now (flows .entry)) (now (key .entry)) .length ⌝ }
     ensures { λ _. ⌜ now (buffer .exit) ≡ newBuffer (now (buffer .entry)) (now (flows .entry)) (now (key .entry)) ⌝ }
 {
-    let outcome = new_file(buffer, flows, key);
-    let answer = outcome.answer;
-    *place = place_of(answer);
-    *length = outcome.length as u64;
-    number_of(answer)
+    new_out(buffer, flows, key, place, length)
 }
 
 #[no_mangle]
@@ -300,20 +153,18 @@ pub extern "C" fn h_append(
     ensures { λ _. ⌜ now (length .exit) ≡ appendOutcome (now (buffer .entry)) «file_length» (readOf (now (name .entry)) (clipsFrom clips) (now (values .entry)) (now (increments .entry)) (now (bases .entry)) (now (qualities .entry))) .length ⌝ }
     ensures { λ _. ⌜ now (buffer .exit) ≡ appendBuffer (now (buffer .entry)) «file_length» (readOf (now (name .entry)) (clipsFrom clips) (now (values .entry)) (now (increments .entry)) (now (bases .entry)) (now (qualities .entry))) ⌝ }
 {
-    let outcome = append(
+    append_out(
         buffer,
-        file_length as usize,
+        file_length,
         name,
-        clips_from(clips),
+        clips,
         values,
         increments,
         bases,
         qualities,
-    );
-    let answer = outcome.answer;
-    *place = place_of(answer);
-    *length = outcome.length as u64;
-    number_of(answer)
+        place,
+        length,
+    )
 }
 
 #[no_mangle]
@@ -329,11 +180,7 @@ pub extern "C" fn h_correct(
     ensures { λ _. ⌜ now (length .exit) ≡ correctOutcome (now (buffer .entry)) «file_length» (now («record» .entry)) .length ⌝ }
     ensures { λ _. ⌜ now (buffer .exit) ≡ correctBuffer (now (buffer .entry)) «file_length» (now («record» .entry)) ⌝ }
 {
-    let outcome = correct(buffer, file_length as usize, record);
-    let answer = outcome.answer;
-    *place = place_of(answer);
-    *length = outcome.length as u64;
-    number_of(answer)
+    correct_out(buffer, file_length, record, place, length)
 }
 
 #[no_mangle]
@@ -351,10 +198,62 @@ pub extern "C" fn h_correct_list(
     ensures { λ _. ⌜ now (length .exit) ≡ runList (now (buffer .entry)) «file_length» (now (list .entry)) .outcome .length ⌝ }
     ensures { λ _. ⌜ now (buffer .exit) ≡ runList (now (buffer .entry)) «file_length» (now (list .entry)) .buffer ⌝ }
 {
-    let outcome = correct_list(buffer, file_length as usize, list);
-    let answer = outcome.answer;
-    *count = outcome.count as u64;
-    *place = place_of(answer);
-    *length = outcome.length as u64;
-    number_of(answer)
+    correct_list_out(buffer, file_length, list, count, place, length)
+}
+
+#[no_mangle]
+pub extern "C" fn h_undo(block: &[u8], first: &mut [u8], second: &mut [u8], made: &mut u64) -> u64
+    ensures { λ r. ⌜ r ≡ numberOf (undo (roomOf (now (first .entry)) (now (second .entry))) (now (block .entry)) .answer) ⌝ }
+    ensures { λ _. ⌜ now (made .exit) ≡ length (undo (roomOf (now (first .entry)) (now (second .entry))) (now (block .entry)) .bytes) ⌝ }
+    ensures { λ _. ⌜ now (first .exit) ≡ firstAfter (undo (roomOf (now (first .entry)) (now (second .entry))) (now (block .entry))) (now (first .entry)) ⌝ }
+    ensures { λ _. ⌜ now (second .exit) ≡ secondAfter (now (second .entry)) ⌝ }
+{
+    undo_out(block, first, second, made)
+}
+
+#[no_mangle]
+pub extern "C" fn h_undo_layer(
+    block: &[u8],
+    first: &mut [u8],
+    second: &mut [u8],
+    made: &mut u64,
+) -> u64
+    ensures { λ r. ⌜ r ≡ numberOf (undoLayer (roomOf (now (first .entry)) (now (second .entry))) (now (block .entry)) .answer) ⌝ }
+    ensures { λ _. ⌜ now (made .exit) ≡ length (undoLayer (roomOf (now (first .entry)) (now (second .entry))) (now (block .entry)) .bytes) ⌝ }
+    ensures { λ _. ⌜ now (first .exit) ≡ firstAfter (undoLayer (roomOf (now (first .entry)) (now (second .entry))) (now (block .entry))) (now (first .entry)) ⌝ }
+    ensures { λ _. ⌜ now (second .exit) ≡ secondAfter (now (second .entry)) ⌝ }
+{
+    undo_layer_out(block, first, second, made)
+}
+
+#[no_mangle]
+pub extern "C" fn h_encode(
+    format: u64,
+    level: u64,
+    follow: &[u8],
+    source: &[u8],
+    out: &mut [u8],
+    made: &mut u64,
+) -> u64
+    ensures { λ r. ⌜ r ≡ numberOf (encode (length (now (out .entry))) format level (now (follow .entry)) (now (source .entry)) .answer) ⌝ }
+    ensures { λ _. ⌜ now (made .exit) ≡ length (encode (length (now (out .entry))) format level (now (follow .entry)) (now (source .entry)) .bytes) ⌝ }
+    ensures { λ _. ⌜ now (out .exit) ≡ outAfter (encode (length (now (out .entry))) format level (now (follow .entry)) (now (source .entry))) (now (out .entry)) ⌝ }
+{
+    encode_out(format, level, follow, source, out, made)
+}
+
+// Encodes where `undone` is 0, and else undoes.
+#[no_mangle]
+pub extern "C" fn h_scf(
+    precision: u64,
+    undone: u64,
+    source: &[u8],
+    out: &mut [u8],
+    made: &mut u64,
+) -> u64
+    ensures { λ r. ⌜ r ≡ numberOf (samples undone (length (now (out .entry))) precision (now (source .entry)) .answer) ⌝ }
+    ensures { λ _. ⌜ now (made .exit) ≡ length (samples undone (length (now (out .entry))) precision (now (source .entry)) .bytes) ⌝ }
+    ensures { λ _. ⌜ now (out .exit) ≡ outAfter (samples undone (length (now (out .entry))) precision (now (source .entry))) (now (out .entry)) ⌝ }
+{
+    samples_out(precision, undone, source, out, made)
 }

@@ -1,11 +1,11 @@
-// C exports of the filters' calls, for tests alone: each copies out what its call answers. No host calls them.
+// The filters' calls with what they answer copied out, as `harness` exports them.
 ghost use mathlib.Core.Path.{_≡_};
 ghost use lib.ListN.{length};
 ghost use Rattle.answers.specs.Answer.{numberOf};
 ghost use Rattle.filter_format.specs.Undo.{filtered, roomOf, firstAfter, secondAfter, undo, undoLayer};
 ghost use Rattle.filter_format.specs.Encode.{encode, outAfter};
 ghost use Rattle.harness_filters.specs.Samples.{samples};
-use answers::Answer;
+use answers::number_of;
 use filter_encode::encode;
 use filter_format::Filtered;
 use filters::undo;
@@ -13,23 +13,7 @@ use filters::undo_layer;
 use scf_samples::encode_samples;
 use scf_samples::undo_samples;
 
-fn wide(x: u8) -> u64
-    ensures { λ r. ⌜ r ≡ x ⌝ }
-{
-    x as u64
-}
-
-fn number_of(answer: Answer) -> u64
-    ensures { λ r. ⌜ r ≡ numberOf answer ⌝ }
-{
-    let Answer::Refused(number, place) = answer else {
-        return 0;
-    };
-    wide(number)
-}
-
-#[no_mangle]
-pub extern "C" fn h_undo(block: &[u8], first: &mut [u8], second: &mut [u8], made: &mut u64) -> u64
+pub fn undo_out(block: &[u8], first: &mut [u8], second: &mut [u8], made: &mut u64) -> u64
     ensures { λ r. ⌜ r ≡ numberOf (undo (roomOf (now (first .entry)) (now (second .entry))) (now (block .entry)) .answer) ⌝ }
     ensures { λ _. ⌜ now (made .exit) ≡ length (undo (roomOf (now (first .entry)) (now (second .entry))) (now (block .entry)) .bytes) ⌝ }
     ensures { λ _. ⌜ now (first .exit) ≡ firstAfter (undo (roomOf (now (first .entry)) (now (second .entry))) (now (block .entry))) (now (first .entry)) ⌝ }
@@ -41,13 +25,7 @@ pub extern "C" fn h_undo(block: &[u8], first: &mut [u8], second: &mut [u8], made
     number_of(answer)
 }
 
-#[no_mangle]
-pub extern "C" fn h_undo_layer(
-    block: &[u8],
-    first: &mut [u8],
-    second: &mut [u8],
-    made: &mut u64,
-) -> u64
+pub fn undo_layer_out(block: &[u8], first: &mut [u8], second: &mut [u8], made: &mut u64) -> u64
     ensures { λ r. ⌜ r ≡ numberOf (undoLayer (roomOf (now (first .entry)) (now (second .entry))) (now (block .entry)) .answer) ⌝ }
     ensures { λ _. ⌜ now (made .exit) ≡ length (undoLayer (roomOf (now (first .entry)) (now (second .entry))) (now (block .entry)) .bytes) ⌝ }
     ensures { λ _. ⌜ now (first .exit) ≡ firstAfter (undoLayer (roomOf (now (first .entry)) (now (second .entry))) (now (block .entry))) (now (first .entry)) ⌝ }
@@ -59,8 +37,7 @@ pub extern "C" fn h_undo_layer(
     number_of(answer)
 }
 
-#[no_mangle]
-pub extern "C" fn h_encode(
+pub fn encode_out(
     format: u64,
     level: u64,
     follow: &[u8],
@@ -79,8 +56,7 @@ pub extern "C" fn h_encode(
 }
 
 // Encodes where `undone` is 0, and else undoes.
-#[no_mangle]
-pub extern "C" fn h_scf(
+pub fn samples_out(
     precision: u64,
     undone: u64,
     source: &[u8],

@@ -1,0 +1,11 @@
+use mathlib.Core.Path.{_∙_}
+use Rattle.harness_files.proofs.Fronts.{front-none, front-put}
+use borrow.Author.Needs.{needs}
+use Rattle.harness_files.proofs.put_front.Statement.{statement}
+use Rattle.harness_files.proofs.put_front.Tie as tie
+
+pub put-front-spec : {M : Type 1} → statement M
+put-front-spec = tie.close (tie.spec (λ c. search (front-none, needs)) (λ c κs. search needs) (λ c. search needs) (λ c.
+    let d = c .before .before in
+    let e = d .before .before in
+    d .copy .ensures ∙ front-put _ _ (e .if1 .left)))

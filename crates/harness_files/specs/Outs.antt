@@ -1,0 +1,83 @@
+-- What the exports leave, in the definitions' words. Assumes nothing: these are definitions.
+use Prim.Native.Nat.{ℕ, _+_, _*_, _/_, _%_, _<_}
+use mathlib.Core.Bool.{Bool, cond, not}
+use mathlib.Core.List.{List}
+use lib.ListN.{length}
+use lib.Dec.{eqb, ltb}
+use Rattle.octets.specs.Parts.{putAt}
+use Rattle.sff_format.specs.declared.Clips.{Clips}
+use Rattle.sff_format.specs.declared.ReadView.{ReadView}
+use Rattle.sff_format.specs.Step.{State, Step, found, stop}
+use Rattle.harness_files.specs.declared.Stepped.{Stepped}
+
+-- a state that is given as three numbers: the index is passed unless the third is 0
+abbrev pub stateFrom : ℕ → ℕ → ℕ → State
+stateFrom at passed index-passed = record { place = at; passed-reads = passed; passed-index = not (eqb index-passed 0) }
+
+abbrev pub flag : Bool → ℕ
+flag x = cond x 1 0
+
+-- four clips in one number, 16 bits each, the first highest
+abbrev pub packed : ℕ → ℕ → ℕ → ℕ → ℕ
+packed first second third fourth = ((first * 65536 + second) * 65536 + third) * 65536 + fourth
+
+abbrev pub viewClips : ReadView → ℕ
+viewClips v = packed (v .«quality_left») (v .«quality_right») (v .«adapter_left») (v .«adapter_right»)
+
+-- each clip has 16 bits
+pub record SmallClips (v : ReadView) : Type 0 where
+  pub quality-left : v .«quality_left» < 65536
+  pub quality-right : v .«quality_right» < 65536
+  pub adapter-left : v .«adapter_left» < 65536
+  pub adapter-right : v .«adapter_right» < 65536
+
+abbrev pub steppedWith : ℕ → ℕ → ℕ → ℕ → ℕ → ℕ → ℕ → ℕ → ℕ → Stepped
+steppedWith number place at passed index-passed read-start name-length bases clips = record {
+  number = number;
+  place = place;
+  at = at;
+  passed = passed;
+  «index_passed» = index-passed;
+  «read_start» = read-start;
+  «name_length» = name-length;
+  bases = bases;
+  clips = clips;
+}
+
+-- a step's answer as numbers; those of a read are 0 where there is none
+unfoldable pub steppedOf : Step → Stepped
+steppedOf (found v next) = record {
+  number = 0;
+  place = 0;
+  at = next .place;
+  passed = next .passed-reads;
+  «index_passed» = flag (next .passed-index);
+  «read_start» = v .place;
+  «name_length» = v .name .size;
+  bases = v .bases .size;
+  clips = viewClips v;
+}
+steppedOf (stop n p s) = record {
+  number = n;
+  place = p;
+  at = s .place;
+  passed = s .passed-reads;
+  «index_passed» = flag (s .passed-index);
+  «read_start» = 0;
+  «name_length» = 0;
+  bases = 0;
+  clips = 0;
+}
+
+-- bytes at the front of a buffer that has room for them; one that has not stays as it is
+unfoldable pub putFront : List ℕ → List ℕ → List ℕ
+putFront xs l = cond (ltb (length l) (length xs)) l (putAt 0 xs l)
+
+-- the clips that one number holds, the first highest
+abbrev pub clipsFrom : ℕ → Clips
+clipsFrom x = record {
+  «quality_left» = x / 281474976710656 % 65536;
+  «quality_right» = x / 4294967296 % 65536;
+  «adapter_left» = x / 65536 % 65536;
+  «adapter_right» = x % 65536;
+}

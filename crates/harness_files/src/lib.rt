@@ -1,0 +1,279 @@
+// The calls on files with what they answer copied out, as `harness` exports them.
+ghost use mathlib.Core.Path.{_≡_};
+ghost use lib.ListN.{length};
+ghost use Rattle.answers.specs.Answer.{numberOf, placeOf};
+ghost use Rattle.sff_format.specs.FileTest.{fileTest};
+ghost use Rattle.sff_format.specs.Step.{fresh, step, found, stop};
+ghost use Rattle.sff_format.specs.Position.{positionTest, signalTest, fileInsert, fileFirst, fileLast};
+ghost use Rattle.sff_format.specs.Writing.{newOutcome, newBuffer, readOf, appendOutcome, appendBuffer};
+ghost use Rattle.sff_reader.specs.Forms.{stateOf};
+ghost use Rattle.sff_signal.specs.Signal.{fileSignal};
+ghost use Rattle.harness_files.specs.Outs.{stateFrom, flag, viewClips, SmallClips, steppedWith, steppedOf, putFront, clipsFrom};
+use answers::number_of;
+use answers::place_of;
+use octets::copy;
+use octets::wide;
+use sff::file_test;
+use sff_find::position_test;
+use sff_format::Clips;
+use sff_format::ReadView;
+use sff_insert::insert;
+use sff_insert::insert_ends;
+use sff_reader::Reader;
+use sff_reader::Step;
+use sff_signal::signal;
+use sff_signal::signal_test;
+use sff_writer::append;
+use sff_writer::new_file;
+
+pub fn test_out(file: &[u8], place: &mut u64) -> u64
+    ensures { λ r. ⌜ r ≡ numberOf (fileTest (now (file .entry))) ⌝ }
+    ensures { λ _. ⌜ now (place .exit) ≡ placeOf (fileTest (now (file .entry))) ⌝ }
+{
+    let answer = file_test(file);
+    *place = place_of(answer);
+    number_of(answer)
+}
+
+// What a step leaves, as numbers.
+struct Stepped {
+    number: u64,
+    place: u64,
+    at: u64,
+    passed: u64,
+    index_passed: u64,
+    read_start: u64,
+    name_length: u64,
+    bases: u64,
+    clips: u64,
+}
+
+fn flag_of(x: bool) -> u64
+    ensures { λ r. ⌜ r ≡ flag x ⌝ }
+{
+    if x { 1 } else { 0 }
+}
+
+fn clips_of(view: ReadView) -> u64
+    requires { ⌜ SmallClips view ⌝ }
+    ensures { λ r. ⌜ r ≡ viewClips view ⌝ }
+{
+    let quality = view.quality_left * 65536 + view.quality_right;
+    let adapter = view.adapter_left * 65536 + view.adapter_right;
+    (quality * 4294967296 + adapter) as u64
+}
+
+fn read_found(view: ReadView, next: Reader) -> Stepped
+    requires { ⌜ SmallClips view ⌝ }
+    ensures { λ r. ⌜ r ≡ steppedOf (found view (stateOf next)) ⌝ }
+{
+    Stepped {
+        number: 0,
+        place: 0,
+        at: next.place as u64,
+        passed: next.passed_reads as u64,
+        index_passed: flag_of(next.passed_index),
+        read_start: view.place as u64,
+        name_length: view.name.size as u64,
+        bases: view.bases.size as u64,
+        clips: clips_of(view),
+    }
+}
+
+fn read_refused(number: u8, place: usize, unmoved: Reader) -> Stepped
+    ensures { λ r. ⌜ r ≡ steppedOf (stop number place (stateOf unmoved)) ⌝ }
+{
+    Stepped {
+        number: wide(number) as u64,
+        place: place as u64,
+        at: unmoved.place as u64,
+        passed: unmoved.passed_reads as u64,
+        index_passed: flag_of(unmoved.passed_index),
+        read_start: 0,
+        name_length: 0,
+        bases: 0,
+        clips: 0,
+    }
+}
+
+fn step_on(file: &[u8], reader: Reader) -> Stepped
+    ensures { λ r. ⌜ r ≡ steppedOf (step (now (file .entry)) (stateOf reader)) ⌝ }
+{
+    let step = reader.step(file);
+    match step {
+        Step::Found(view, next) => read_found(view, next),
+        Step::Stopped(number, place, unmoved) => read_refused(number, place, unmoved),
+    }
+}
+
+pub fn fresh_out(file: &[u8], at: &mut u64, passed: &mut u64, index_passed: &mut u64) -> u64
+    ensures { λ r. ⌜ r ≡ 0 ⌝ }
+    ensures { λ _. ⌜ now (at .exit) ≡ fresh (now (file .entry)) .place ⌝ }
+    ensures { λ _. ⌜ now (passed .exit) ≡ fresh (now (file .entry)) .passed-reads ⌝ }
+    ensures { λ _. ⌜ now («index_passed» .exit) ≡ flag (fresh (now (file .entry)) .passed-index) ⌝ }
+{
+    let reader = Reader::fresh(file);
+    *at = reader.place as u64;
+    *passed = reader.passed_reads as u64;
+    *index_passed = flag_of(reader.passed_index);
+    0
+}
+
+// The state comes in and goes out by `at`, `passed` and `index_passed`; `place` is the refusal's, and the last four speak of the read.
+pub fn step_out(
+    file: &[u8],
+    at: &mut u64,
+    passed: &mut u64,
+    index_passed: &mut u64,
+    place: &mut u64,
+    read_start: &mut u64,
+    name_length: &mut u64,
+    bases: &mut u64,
+    clips: &mut u64,
+) -> u64
+    ensures { λ r. ⌜ steppedWith r (now (place .exit)) (now (at .exit)) (now (passed .exit)) (now («index_passed» .exit)) (now («read_start» .exit)) (now («name_length» .exit)) (now (bases .exit)) (now (clips .exit))
+        ≡ steppedOf (step (now (file .entry)) (stateFrom (now (at .entry)) (now (passed .entry)) (now («index_passed» .entry)))) ⌝ }
+{
+    let reader = Reader {
+        place: *at as usize,
+        passed_reads: *passed as usize,
+        passed_index: *index_passed != 0,
+    };
+    let step = step_on(file, reader);
+    *at = step.at;
+    *passed = step.passed;
+    *index_passed = step.index_passed;
+    *place = step.place;
+    *read_start = step.read_start;
+    *name_length = step.name_length;
+    *bases = step.bases;
+    *clips = step.clips;
+    step.number
+}
+
+fn put_front(out: &mut [u8], bytes: &[u8])
+    ensures { λ _. ⌜ now (out .exit) ≡ putFront (now (bytes .entry)) (now (out .entry)) ⌝ }
+{
+    let n = bytes.len();
+    if out.len() < n {
+        return;
+    }
+    copy(out, 0, bytes, 0, n);
+}
+
+fn clips_from(x: u64) -> Clips
+    ensures { λ r. ⌜ r ≡ clipsFrom x ⌝ }
+{
+    Clips {
+        quality_left: (x / 281474976710656 % 65536) as u16,
+        quality_right: (x / 4294967296 % 65536) as u16,
+        adapter_left: (x / 65536 % 65536) as u16,
+        adapter_right: (x % 65536) as u16,
+    }
+}
+
+// The bases go to the front of `out` if it has room for them all; if not it stays as it is. `made` is how many they are in either case.
+pub fn insert_out(
+    file: &[u8],
+    position: u64,
+    out: &mut [u8],
+    place: &mut u64,
+    first: &mut u64,
+    last: &mut u64,
+    made: &mut u64,
+) -> u64
+    ensures { λ r. ⌜ r ≡ numberOf (positionTest (now (file .entry)) position) ⌝ }
+    ensures { λ _. ⌜ now (place .exit) ≡ placeOf (positionTest (now (file .entry)) position) ⌝ }
+    ensures { λ _. ⌜ now (first .exit) ≡ fileFirst (now (file .entry)) position ⌝ }
+    ensures { λ _. ⌜ now (last .exit) ≡ fileLast (now (file .entry)) position ⌝ }
+    ensures { λ _. ⌜ now (made .exit) ≡ length (fileInsert (now (file .entry)) position) ⌝ }
+    ensures { λ _. ⌜ now (out .exit) ≡ putFront (fileInsert (now (file .entry)) position) (now (out .entry)) ⌝ }
+{
+    let at = position as usize;
+    let answer = position_test(file, at);
+    let ends = insert_ends(file, at);
+    let bases = insert(file, at);
+    *place = place_of(answer);
+    *first = ends.first.0 as u64;
+    *last = ends.last.0 as u64;
+    *made = bases.len() as u64;
+    put_front(out, bases);
+    number_of(answer)
+}
+
+pub fn signal_out(
+    file: &[u8],
+    position: u64,
+    strongest: &mut f64,
+    weakest: &mut f64,
+    mean: &mut f64,
+    place: &mut u64,
+) -> u64
+    ensures { λ r. ⌜ r ≡ numberOf (signalTest (now (file .entry)) position) ⌝ }
+    ensures { λ _. ⌜ now (place .exit) ≡ placeOf (signalTest (now (file .entry)) position) ⌝ }
+    ensures { λ _. ⌜ now (strongest .exit) ≡ fileSignal (now (file .entry)) position .strongest ⌝ }
+    ensures { λ _. ⌜ now (weakest .exit) ≡ fileSignal (now (file .entry)) position .weakest ⌝ }
+    ensures { λ _. ⌜ now (mean .exit) ≡ fileSignal (now (file .entry)) position .mean ⌝ }
+{
+    let at = position as usize;
+    let answer = signal_test(file, at);
+    let summary = signal(file, at);
+    *place = place_of(answer);
+    *strongest = summary.strongest;
+    *weakest = summary.weakest;
+    *mean = summary.mean;
+    number_of(answer)
+}
+
+// `length` is the file's length afterwards.
+pub fn new_out(
+    buffer: &mut [u8],
+    flows: &[u8],
+    key: &[u8],
+    place: &mut u64,
+    length: &mut u64,
+) -> u64
+    ensures { λ r. ⌜ r ≡ numberOf (newOutcome (now (buffer .entry)) (now (flows .entry)) (now (key .entry)) .answer) ⌝ }
+    ensures { λ _. ⌜ now (place .exit) ≡ placeOf (newOutcome (now (buffer .entry)) (now (flows .entry)) (now (key .entry)) .answer) ⌝ }
+    ensures { λ _. ⌜ now (length .exit) ≡ newOutcome (now (buffer .entry)) (now (flows .entry)) (now (key .entry)) .length ⌝ }
+    ensures { λ _. ⌜ now (buffer .exit) ≡ newBuffer (now (buffer .entry)) (now (flows .entry)) (now (key .entry)) ⌝ }
+{
+    let outcome = new_file(buffer, flows, key);
+    let answer = outcome.answer;
+    *place = place_of(answer);
+    *length = outcome.length as u64;
+    number_of(answer)
+}
+
+pub fn append_out(
+    buffer: &mut [u8],
+    file_length: u64,
+    name: &[u8],
+    clips: u64,
+    values: &[u16],
+    increments: &[u8],
+    bases: &[u8],
+    qualities: &[u8],
+    place: &mut u64,
+    length: &mut u64,
+) -> u64
+    ensures { λ r. ⌜ r ≡ numberOf (appendOutcome (now (buffer .entry)) «file_length» (readOf (now (name .entry)) (clipsFrom clips) (now (values .entry)) (now (increments .entry)) (now (bases .entry)) (now (qualities .entry))) .answer) ⌝ }
+    ensures { λ _. ⌜ now (place .exit) ≡ placeOf (appendOutcome (now (buffer .entry)) «file_length» (readOf (now (name .entry)) (clipsFrom clips) (now (values .entry)) (now (increments .entry)) (now (bases .entry)) (now (qualities .entry))) .answer) ⌝ }
+    ensures { λ _. ⌜ now (length .exit) ≡ appendOutcome (now (buffer .entry)) «file_length» (readOf (now (name .entry)) (clipsFrom clips) (now (values .entry)) (now (increments .entry)) (now (bases .entry)) (now (qualities .entry))) .length ⌝ }
+    ensures { λ _. ⌜ now (buffer .exit) ≡ appendBuffer (now (buffer .entry)) «file_length» (readOf (now (name .entry)) (clipsFrom clips) (now (values .entry)) (now (increments .entry)) (now (bases .entry)) (now (qualities .entry))) ⌝ }
+{
+    let outcome = append(
+        buffer,
+        file_length as usize,
+        name,
+        clips_from(clips),
+        values,
+        increments,
+        bases,
+        qualities,
+    );
+    let answer = outcome.answer;
+    *place = place_of(answer);
+    *length = outcome.length as u64;
+    number_of(answer)
+}

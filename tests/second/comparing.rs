@@ -1,11 +1,8 @@
 //! What a comparison of the library with the second implementation needs: lent memory, equal answers,
 //! and what is told where two differ.
 
-use crate::exports::Made;
 use crate::inputs::{self, Random};
 use crate::lent::Lent;
-use crate::sff::numbers;
-use crate::writing::Written;
 use std::fmt::Debug;
 
 /// A case's random choices, apart from those of its inputs: margins of lent memory, states, rooms.
@@ -95,14 +92,4 @@ pub fn differ(message: String, given: &[(&'static str, &[u8])]) -> Outcome {
         message,
         given: given.collect(),
     })
-}
-
-/// What a writer or a corrector left, as the library says it.
-pub fn made(written: Written) -> Made {
-    let (number, place) = numbers(written.refusal);
-    Made {
-        number,
-        place,
-        length: written.length,
-    }
 }

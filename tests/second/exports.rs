@@ -1,6 +1,8 @@
 //! The library's C exports, those of the crate `harness`, and what a call of each leaves.
 
 use crate::lent::Lent;
+use crate::sff::numbers;
+use crate::writing::Written;
 
 #[rustfmt::skip]
 extern "C" {
@@ -173,6 +175,18 @@ pub struct Made {
     pub number: u64,
     pub place: u64,
     pub length: u64,
+}
+
+impl Made {
+    /// What a writer or a corrector of the second program left, as the library says it.
+    pub fn of(written: Written) -> Made {
+        let (number, place) = numbers(written.refusal);
+        Made {
+            number,
+            place,
+            length: written.length,
+        }
+    }
 }
 
 /// A writer's or a corrector's call, given where place and length go.

@@ -20,7 +20,7 @@ mod reading;
 mod sff;
 mod writing;
 
-use comparing::{differ, holds, made, same, unchanged, Choices, Difference, Outcome};
+use comparing::{differ, holds, same, unchanged, Choices, Difference, Outcome};
 use counts::Counts;
 use exports::{Inserted, LentRead, Made, State, Stepped, Summed};
 use lent::Lent;
@@ -377,7 +377,7 @@ impl Comparison {
         let written = writing::new_file(second, flows, key);
         let (lent_flows, lent_key) = (choices.lend(flows, b'N'), choices.lend(key, b'N'));
         let library = exports::new(buffer, &lent_flows, &lent_key);
-        same("new", library, made(written), &given)?;
+        same("new", library, Made::of(written), &given)?;
         holds("new", buffer, second, &given)?;
         let only_read = lent_flows.unchanged() && lent_key.unchanged();
         unchanged("new", only_read, &given)?;
@@ -412,7 +412,7 @@ impl Comparison {
         let written = writing::append(second, file_length, read);
         let lent = lend_read(choices, read);
         let library = exports::append(buffer, file_length, &lent);
-        same(&call, library, made(written), &given)?;
+        same(&call, library, Made::of(written), &given)?;
         holds(&call, buffer, second, &given)?;
         unchanged(&call, lent.unchanged(), &given)?;
         self.append.add(&counts::name(written.refusal));

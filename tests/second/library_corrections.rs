@@ -1,7 +1,7 @@
 //! The comparison of corrections and of lists: whole answers, the whole buffer, and that record and list
 //! stay as they are.
 
-use crate::comparing::{holds, made, same, unchanged, Choices, Outcome};
+use crate::comparing::{holds, same, unchanged, Choices, Outcome};
 use crate::correcting::{self, RECORD};
 use crate::corrections::{correct_call, list_call, Record, CLIPS, RENAME};
 use crate::counts::{self, Counts};
@@ -87,7 +87,7 @@ impl Corrections {
         let written = correcting::correct(&mut second, file_length, record);
         let (mut buffer, lent) = (choices.lend(before, 9), choices.lend(record, 1));
         let library = exports::correct(&mut buffer, file_length, &lent);
-        same(&call, library, made(written), &given)?;
+        same(&call, library, Made::of(written), &given)?;
         holds(&call, &buffer, &second, &given)?;
         unchanged(&call, lent.unchanged(), &given)?;
         self.correct.add(&counts::name(written.refusal));
@@ -110,7 +110,7 @@ impl Corrections {
         let run = correcting::correct_list(&mut second, file_length, list);
         let expected = MadeByList {
             count: run.count,
-            last: made(run.last),
+            last: Made::of(run.last),
         };
         let (mut buffer, lent) = (choices.lend(before, 9), choices.lend(list, 1));
         let library = exports::correct_list(&mut buffer, file_length, &lent);

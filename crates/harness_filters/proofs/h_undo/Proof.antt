@@ -1,0 +1,11 @@
+use Rattle.answers.specs.Answer.{numberOf}
+use mathlib.Core.Path.{ap, _∙_}
+use borrow.Author.Needs.{needs}
+use Rattle.harness_filters.proofs.h_undo.Statement.{statement}
+use Rattle.harness_filters.proofs.h_undo.Tie as tie
+
+pub h-undo-spec : {M : Type 1} → statement M
+h-undo-spec =
+    tie.close (tie.spec (λ c κs. search needs) (λ c κs. search needs) (λ c. search needs) (λ c. search needs) (λ c.
+ let w = c .before .before .before .before .before .undo .ensures in
+    (c .number-of .ensures ∙ ap (λ o. numberOf (o .answer)) (w .0), (ap (λ o. o .made) (w .0), (w .1 .0, w .1 .1)))))

@@ -1,0 +1,10 @@
+-- Both ways of SCF samples, as one call has them. Assumes nothing: these are definitions.
+use Prim.Native.Nat.{ℕ}
+use mathlib.Core.Bool.{cond}
+use mathlib.Core.List.{List}
+use lib.Dec.{eqb}
+use Rattle.filter_format.specs.Undo.{Result}
+use Rattle.filter_format.specs.Samples.{encodeSamples, undoSamples}
+
+unfoldable pub samples : ℕ → ℕ → ℕ → List ℕ → Result
+samples undone room precision s = cond (eqb undone 0) (encodeSamples room precision s) (undoSamples room precision s)

@@ -13,7 +13,7 @@ use filter_block::inner::is_raw;
 use filter_block::inner::undo_filter;
 use filter_format::Filtered;
 
-mod inner;
+pub mod inner;
 
 // Undoes a block until format 0: the data go to the first buffer.
 pub fn undo(block: &[u8], first: &mut [u8], second: &mut [u8]) -> Filtered

@@ -1,0 +1,33 @@
+-- What `unfilter` prints of a block. Assumes nothing: these are definitions.
+use Prim.Native.Nat.{ℕ}
+use mathlib.Core.Path.{_≡_}
+use mathlib.Core.Bool.{cond}
+use mathlib.Core.List.{List, []}
+use lib.ListN.{length}
+use lib.Dec.{ltb}
+use Rattle.octets.specs.Parts.{filled}
+use Rattle.answers.specs.declared.Answer.{Answer}
+use Rattle.answers.specs.declared.Answer.the-variants.{Accepted, Refused}
+use Rattle.filter_format.specs.Undo.{Result, roomOf, secondAfter, undo}
+use Rattle.lines.specs.Lines.{refusalLine, tooLong}
+
+-- "A refusal is one line and nothing else"
+unfoldable pub answered : Answer → List ℕ → List ℕ
+answered Accepted bytes = bytes
+answered (Refused n p) bytes = refusalLine n p
+
+-- the data, or the refusal, of a call
+abbrev pub textOf : Result → List ℕ
+textOf result = answered (result .answer) (result .bytes)
+
+-- "longer input than 65,536 bytes prints `too long`"
+unfoldable pub unfilterText : ℕ → List ℕ → List ℕ
+unfilterText room b = cond (ltb 65536 (length b)) tooLong (textOf (undo room b))
+
+-- the same by way of two buffers, where the first has room for any line, and else nothing
+unfoldable pub printedBy : List ℕ → List ℕ → List ℕ → List ℕ
+printedBy first second b = cond (ltb (length first) 64) [] (unfilterText (roomOf first second) b)
+
+-- r bytes of text stand in the first buffer, then zeros; the second is zero
+abbrev pub Holds : List ℕ → List ℕ → List ℕ → List ℕ → List ℕ → ℕ → Type 0
+Holds text first first′ second second′ r = (r ≡ length text) × ((first′ ≡ filled (length first) text) × (second′ ≡ secondAfter second))

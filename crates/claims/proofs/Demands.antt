@@ -1,13 +1,14 @@
--- The demands on the file's test, on reading, on writing and on corrections, each in the tender's words, over the definitions. That the code answers what a definition says is the promise of
+-- The demands on the file's test, on reading, on writing, on corrections and on filters, each in the tender's words, over the definitions. That the code answers what a definition says is the promise of
 -- `sff::file_test` (fileTest), of `Reader::fresh` and `step` (fresh, step), of `sff_insert` (fileInsert, fileFirst, fileLast), of `sff_writer` (newOutcome and newBuffer, appendOutcome and
--- appendBuffer, of which writeEach is made) and of `sff_corrector::correct` (correctOutcome, correctBuffer) and `correct_list` (runList). Assumes nothing.
+-- appendBuffer, of which writeEach is made) and of `sff_corrector::correct` (correctOutcome, correctBuffer) and `correct_list` (runList), of `filters::undo` and
+-- `undo_layer` (undo, undoLayer), of `filter_encode::encode` (encode) and of `scf_samples` (encodeSamples, undoSamples). Assumes nothing.
 use Prim.Native.Nat.{ℕ, suc, _+_, _-_, _/_, _%_, _≤_, _<_, max}
 use mathlib.Core.Path.{_≡_, refl, sym, ap, _∙_}
 use mathlib.Core.Bool.{false}
 use mathlib.Core.Logic.{_↔_, _⊎_, inl, inr, ⊎-elim}
 use mathlib.Core.List.{List, [], _∷_, _++_}
 use native.Mathlib.Omega.{arith}
-use lib.ListN.{length, take, drop}
+use lib.ListN.{length, take, drop, getD}
 use Rattle.octets.specs.Parts.{putAt, settled}
 use Rattle.octets.specs.Numbers.{Bytes, bytesOf}
 use Rattle.octets.proofs.AllBytes.{bytes-take}
@@ -45,6 +46,13 @@ use Rattle.sff_correction.specs.NoReason.{NoReason}
 use Rattle.sff_correction.specs.Correct.{correctTest, correctOutcome, correctBuffer}
 use Rattle.sff_correction.specs.ListRun.{ran, runList}
 use Rattle.sff_correction.specs.ListModel.{reasonFor, firstRefused, runOn}
+use Rattle.filter_format.specs.Block.{filterAt}
+use Rattle.filter_format.specs.Undo.{making, refusing, undoLayer, undoFrom}
+use Rattle.filter_format.specs.Encode.{encode, SameFor}
+use Rattle.filter_format.specs.Samples.{encodeSamples, undoSamples}
+use Rattle.filter_format.proofs.Layers.{undo-after-encode, chain-after-encode, ninth-after-encode, encode-after-undo}
+use Rattle.filter_format.proofs.Sampled.{undo-after-encode-samples, encode-after-undo-samples}
+use Rattle.filter_format.proofs.Refusals.{layer-zero, encode-zero, encode-samples-zero, undo-samples-zero}
 use Rattle.sff_correction.proofs.RecordsLaid.{record-exactly}
 use Rattle.sff_correction.proofs.EditedBytes.{sections-kept}
 use Rattle.sff_correction.proofs.NoReasons.{no-reason, correct-zero}
@@ -253,3 +261,28 @@ list-not-whole = list-20
 
 pub empty-list : (buffer : List ℕ) (len : ℕ) → runList buffer len [] ≡ ran 0 Accepted len buffer
 empty-list buffer len = list-none buffer len [] refl refl
+
+-- "Each filter undoes its own encoding": "Undo after encode returns the data, both of one layer and with room enough", for every format, level and table that encoding accepts
+module _ (room room' format level : ℕ) (follow s : List ℕ) (y : Bytes s) (z : Bytes follow) (carried : numberOf (encode room format level follow s .answer) ≡ 0) (fits : length s ≤ room') where
+  pub filter-undoes-encoding : undoLayer room' (encode room format level follow s .bytes) ≡ making s
+  filter-undoes-encoding = undo-after-encode room room' format level follow s y z (encode-zero room format level follow s carried) fits
+
+  -- "An opened layer hands its block to the choice of format, which opens the next layer, eight at most": where some may still be opened, and where none may
+  pub layer-in-chain : (left : ℕ) → undoFrom (suc left) room' (encode room format level follow s .bytes) ≡ undoFrom left room' s
+  layer-in-chain left = chain-after-encode room room' format level follow s y z (encode-zero room format level follow s carried) fits left
+
+  pub ninth-filter : undoFrom 0 room' (encode room format level follow s .bytes) ≡ refusing (Refused 44 0)
+  ninth-filter = ninth-after-encode room room' format level follow s y z (encode-zero room format level follow s carried) fits
+
+-- "Encode after undo returns the block for 64, 65, 66, 72 (same level and follow bytes)"
+pub encoding-undoes-filter : (room room' level : ℕ) (follow b : List ℕ) → Bytes b → numberOf (undoLayer room b .answer) ≡ 0 → SameFor (filterAt b) b level follow → length b ≤ room'
+    → encode room' (getD b 0 0) level follow (undoLayer room b .bytes) ≡ making b
+encoding-undoes-filter room room' level follow b y carried same fits = encode-after-undo room room' level follow b y (layer-zero room b carried) same fits
+
+-- SCF samples, either way
+module _ (room room' precision : ℕ) (s : List ℕ) (y : Bytes s) (fits : length s ≤ room') where
+  pub samples-undo-encoding : numberOf (encodeSamples room precision s .answer) ≡ 0 → undoSamples room' precision (encodeSamples room precision s .bytes) ≡ making s
+  samples-undo-encoding carried = undo-after-encode-samples room room' precision s y fits (encode-samples-zero room precision s carried)
+
+  pub encoding-undoes-samples : numberOf (undoSamples room precision s .answer) ≡ 0 → encodeSamples room' precision (undoSamples room precision s .bytes) ≡ making s
+  encoding-undoes-samples carried = encode-after-undo-samples room room' precision s y fits (undo-samples-zero room precision s carried)

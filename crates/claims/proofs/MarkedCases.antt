@@ -19,8 +19,13 @@ use Rattle.sff_correction.specs.RecordLayout.{recordFields, layoutRecord}
 use Rattle.sff_correction.specs.Edit.{instead, edited}
 use Rattle.sff_correction.specs.Reasons.{clipsAbove, bears, reasons}
 use Rattle.sff_correction.specs.Correct.{correctTest, correctOutcome, correctBuffer}
+use Rattle.filter_format.specs.Delta.{scan, deltas, undeltas, deltaBytes, undeltaBytes}
+use Rattle.filter_format.specs.Narrow.{narrowUnit, narrow, extended, widen, lacking}
+use Rattle.filter_format.specs.Block.{filterOf, headerLength, badHeader, badData, decoded, undone, contentsTest}
+use Rattle.filter_format.specs.Undo.{layerTest, undoLayer}
+use Rattle.filter_format.specs.Encode.{badGiven, badUnits, headerRest, encodedData, encoded, encodeTest, encode}
 use Rattle.claims.specs.Marked.{All, table}
 
 pub marked : All table
-unfolding wholePart putAt filled insertAt settled same bigEndianFrom number bytesOf fields unitBytes unitsAt run firstNot when shifted _then_ declared badIndexLength badIndex indexSize leftLimit rightLimit isFlow walkRun isCall callRun headerFields layoutHeader readFields layoutReadHeader layoutReadData layoutRead layoutReads layoutIndex layout fixedTest charactersTest headerTest nameTest clipTest basesTest dataTest readTest readEnd indexDue passTest indexTest pastIndex endTest boundaryTest fileTest parseRead parseReads parse placeFrom readPlace firstBase rightEnd lastBase viewAt positionTest acceptedOr insertStretch fileInsert fileFirst fileLast nameFieldTest unusedTest newClipsTest newNameTest recordTest recordFields layoutRecord instead edited clipsAbove bears reasons correctTest correctOutcome correctBuffer
-marked = (refl, (refl, (refl, ((refl, refl, refl), (refl, (refl, (refl, (refl, (refl, (refl, (refl, (refl, (refl, (refl, ((refl, refl), ((refl, refl), ((refl, refl), ((refl, refl), tt))))))))))))))))))
+unfolding wholePart putAt filled insertAt settled same bigEndianFrom number bytesOf fields unitBytes unitsAt run firstNot when shifted _then_ declared badIndexLength badIndex indexSize leftLimit rightLimit isFlow walkRun isCall callRun headerFields layoutHeader readFields layoutReadHeader layoutReadData layoutRead layoutReads layoutIndex layout fixedTest charactersTest headerTest nameTest clipTest basesTest dataTest readTest readEnd indexDue passTest indexTest pastIndex endTest boundaryTest fileTest parseRead parseReads parse placeFrom readPlace firstBase rightEnd lastBase viewAt positionTest acceptedOr insertStretch fileInsert fileFirst fileLast nameFieldTest unusedTest newClipsTest newNameTest recordTest recordFields layoutRecord instead edited clipsAbove bears reasons correctTest correctOutcome correctBuffer scan deltas undeltas deltaBytes undeltaBytes narrowUnit narrow extended widen lacking filterOf headerLength badHeader badData decoded undone contentsTest layerTest undoLayer badGiven badUnits headerRest encodedData encoded encodeTest encode
+marked = (refl, (refl, (refl, ((refl, refl, refl), (refl, (refl, (refl, (refl, (refl, (refl, (refl, (refl, (refl, (refl, ((refl, refl), ((refl, refl), ((refl, refl), ((refl, refl), ((refl, refl), ((refl, refl), ((refl, refl), ((refl, refl), ((refl, refl), tt)))))))))))))))))))))))

@@ -12,15 +12,18 @@ use Rattle.sff_format.specs.FileTest.{fileTest}
 use Rattle.sff_format.specs.Position.{fileInsert, fileFirst, fileLast}
 use Rattle.sff_correction.specs.RecordLayout.{Change, rename, remove, layoutRecord}
 use Rattle.sff_correction.specs.Correct.{correctOutcome, correctBuffer}
+use Rattle.filter_format.specs.Undo.{making, undoLayer}
+use Rattle.filter_format.specs.Encode.{encode}
 
 -- what a row says: a file is written so; these bytes are so many; the whole-file test answers so; the insert at a position goes from a base to a base and is so;
--- a record corrects a file of that length in a buffer with that outcome, and leaves the buffer so
+-- a record corrects a file of that length in a buffer with that outcome, and leaves the buffer so; the data are that block by a format and level, and the block is the data undone
 pub data Case : Type 0 where
   written : File → List ℕ → Case
   sized : List ℕ → ℕ → Case
   tested : List ℕ → Answer → Case
   inserted : List ℕ → ℕ → ℕ → ℕ → List ℕ → Case
   corrected : List ℕ → ℕ → List ℕ → Outcome → List ℕ → Case
+  filtered : ℕ → ℕ → List ℕ → List ℕ → Case
 
 abbrev pub Holds : Case → Type 0
 Holds (written f b) = layout f ≡ b
@@ -28,6 +31,7 @@ Holds (sized b n) = length b ≡ n
 Holds (tested b a) = fileTest b ≡ a
 Holds (inserted b i first last xs) = (fileFirst b i ≡ first) × (fileLast b i ≡ last) × (fileInsert b i ≡ xs)
 Holds (corrected b len r o c) = (correctOutcome b len r ≡ o) × (correctBuffer b len r ≡ c)
+Holds (filtered format level s b) = (encode (length b) format level [] s ≡ making b) × (undoLayer (length s) b ≡ making s)
 
 abbrev pub All : List Case → Type 0
 All [] = Unit {0}
@@ -112,4 +116,12 @@ table =
     ∷ corrected (eBytes ++ replicate 7 7) 88 (toR1 (rename nine)) (record { answer = Refused 26 0; length = 88 }) (eBytes ++ replicate 7 7)
     -- "removing r1 leaves 40 bytes and 48 zeros"
     ∷ corrected (eBytes ++ replicate 7 7) 88 (toR1 remove) (done 40) (set (take 40 eBytes) 23 0 ++ replicate 48 0 ++ replicate 7 7)
+    -- "10 20 10 200 190 5, width 1: level 1 gives 10 10 246 190 246 71; level 2 gives 10 0 236 200 56 81"
+    ∷ filtered 64 1 (10 ∷ 20 ∷ 10 ∷ 200 ∷ 190 ∷ 5 ∷ []) (64 ∷ 1 ∷ 10 ∷ 10 ∷ 246 ∷ 190 ∷ 246 ∷ 71 ∷ [])
+    ∷ filtered 64 2 (10 ∷ 20 ∷ 10 ∷ 200 ∷ 190 ∷ 5 ∷ []) (64 ∷ 2 ∷ 10 ∷ 0 ∷ 236 ∷ 200 ∷ 56 ∷ 81 ∷ [])
+    -- "10 20 30 10 hex, width 2, level 1: 10 20 1F F0"
+    ∷ filtered 65 1 (0x10 ∷ 0x20 ∷ 0x30 ∷ 0x10 ∷ []) (65 ∷ 1 ∷ 0x10 ∷ 0x20 ∷ 0x1F ∷ 0xF0 ∷ [])
+    -- "10 5 -5 200 -800 by 70: 10 5 -5 -128 0 200 -128 -4 -32", as bytes; "-128 by 70: 128 255 128"
+    ∷ filtered 70 0 (0 ∷ 10 ∷ 0 ∷ 5 ∷ 255 ∷ 251 ∷ 0 ∷ 200 ∷ 252 ∷ 224 ∷ []) (70 ∷ 10 ∷ 5 ∷ 251 ∷ 128 ∷ 0 ∷ 200 ∷ 128 ∷ 252 ∷ 224 ∷ [])
+    ∷ filtered 70 0 (255 ∷ 128 ∷ []) (70 ∷ 128 ∷ 255 ∷ 128 ∷ [])
     ∷ []

@@ -25,7 +25,7 @@ use Rattle.filter_format.specs.Delta.{deltaBytes, undeltaBytes}
 use Rattle.filter_format.specs.Narrow.{narrow, widen, lacking}
 use Rattle.filter_format.specs.Follow.{followed, unfollowed}
 use Rattle.filter_format.specs.Block.{filterOf, Known, filterAt, isRaw, isFilter, headerLength, levelAt, followAt, dataAt, badLevel, badHeader, badData, decoded, undone, contentsTest}
-use Rattle.filter_format.specs.Undo.{Result, making, tested, layerTest, undoLayer, blockTest, undoFrom}
+use Rattle.filter_format.specs.Undo.{Result, making, refusing, tested, layerTest, undoLayer, blockTest, undoFrom}
 use Rattle.filter_format.specs.Encode.{badGiven, badUnits, headerRest, encodedData, encoded, encodeTest, encode, SameFor}
 use Rattle.filter_format.proofs.Wholes.{below-units, bytes-of-units}
 use Rattle.filter_format.proofs.Levels.{length-delta, length-undelta, undelta-delta-bytes, delta-undelta-bytes}
@@ -203,6 +203,11 @@ module _ (room room' format level : ℕ) (follow s : List ℕ) (y : Bytes s) (z 
       both-ok _ _ (ok-when _ _ _ (some format level follow s))
       (both-ok _ _ (ok-when _ _ _ (rw (raw, filters))) (both-ok _ _ (ok-when _ _ _ (rw (filters, more))) (contents-ok room' layer s opens fits))) in
       rw (made, test, raw) (ap (undoFrom left room') (undone-is room' layer s opens))
+
+  -- "44 a ninth filter": where no filter may be opened any more
+  pub ninth-after-encode : undoFrom 0 room' (encode room format level follow s .bytes) ≡ refusing (Refused 44 0)
+  unfolding undoFrom blockTest acceptedOr when _then_ layer
+  ninth-after-encode = let raw = raw-none (filterAt layer) filters in rw (made, some format level follow s, raw, filters)
 
 -- a header of format 64, 65 or 66 that was accepted has its zeros
 zeros : (x y : ℕ) (t u : Bool) → eqb x 0 ≡ t → eqb y 0 ≡ u → ltb (2 + oneMore t (oneMore u 0)) 4 ≡ false → (x ≡ 0) × (y ≡ 0)

@@ -7,3 +7,4 @@ pub mod Blocks
 pub mod Layers
 pub mod Results
 pub mod Sampled
+pub mod Refusals

@@ -47,12 +47,12 @@ use Rattle.sff_correction.specs.Correct.{correctTest, correctOutcome, correctBu
 use Rattle.sff_correction.specs.ListRun.{ran, runList}
 use Rattle.sff_correction.specs.ListModel.{reasonFor, firstRefused, runOn}
 use Rattle.filter_format.specs.Block.{filterAt}
-use Rattle.filter_format.specs.Undo.{making, refusing, undoLayer, undoFrom}
+use Rattle.filter_format.specs.Undo.{making, refusing, undo, undoLayer, undoFrom}
 use Rattle.filter_format.specs.Encode.{encode, SameFor}
 use Rattle.filter_format.specs.Samples.{encodeSamples, undoSamples}
 use Rattle.filter_format.proofs.Layers.{undo-after-encode, chain-after-encode, ninth-after-encode, encode-after-undo}
 use Rattle.filter_format.proofs.Sampled.{undo-after-encode-samples, encode-after-undo-samples}
-use Rattle.filter_format.proofs.Refusals.{layer-zero, encode-zero, encode-samples-zero, undo-samples-zero}
+use Rattle.filter_format.proofs.Refusals.{undo-zero, layer-zero, encode-zero, encode-samples-zero, undo-samples-zero}
 use Rattle.sff_correction.proofs.RecordsLaid.{record-exactly}
 use Rattle.sff_correction.proofs.EditedBytes.{sections-kept}
 use Rattle.sff_correction.proofs.NoReasons.{no-reason, correct-zero}
@@ -261,6 +261,10 @@ list-not-whole = list-20
 
 pub empty-list : (buffer : List ℕ) (len : ℕ) → runList buffer len [] ≡ ran 0 Accepted len buffer
 empty-list buffer len = list-none buffer len [] refl refl
+
+-- "Every answer has a number (0 accepted)", of filters
+pub undo-accepted-at-0 : (room : ℕ) (b : List ℕ) → (numberOf (undo room b .answer) ≡ 0) ↔ (undo room b .answer ≡ Accepted)
+undo-accepted-at-0 room b = (undo-zero room b, ap numberOf)
 
 -- "Each filter undoes its own encoding": "Undo after encode returns the data, both of one layer and with room enough", for every format, level and table that encoding accepts
 module _ (room room' format level : ℕ) (follow s : List ℕ) (y : Bytes s) (z : Bytes follow) (carried : numberOf (encode room format level follow s .answer) ≡ 0) (fits : length s ≤ room') where

@@ -4,11 +4,13 @@ use mathlib.Core.Path.{_≡_, refl, sym, subst}
 use mathlib.Core.Bool.{Bool, true, false, not, _&&_}
 use mathlib.Core.List.{List}
 use native.Mathlib.Omega.{arith}
+use borrow.Author.Needs.{needs}
 use borrow.Author.Tests.{eq-eqb, ne-eqb}
 use lib.Dec.{eqb}
 use lib.ListN.{length, take, getD}
 use Rattle.octets.specs.Parts.{part}
 use Rattle.octets.proofs.Lists.{drop-take}
+use Rattle.answers.specs.declared.Answer.{Answer}
 use Rattle.answers.specs.declared.Answer.the-variants.{Accepted, Refused}
 use Rattle.answers.specs.Answer.{when, _then_, acceptedOr}
 use Rattle.answers.proofs.Answers.{first-ok, second-ok, when-ok}
@@ -23,46 +25,41 @@ use Rattle.filter_block.specs.Tests.{Opens}
 pub known-at : (f : Filter) (b : List ℕ) → f ≡ filterAt b → Known f
 known-at f b e = subst Known (sym e) (known (getD b 0 0))
 
--- an empty block
-module _ (b : List ℕ) (none : length b ≡ 0) where
-  pub block-none : (left room : ℕ) → Refused 40 0 ≡ blockTest left room b
+-- the tests of a block and of a layer as the code makes them, one after another
+module _ (b : List ℕ) (room : ℕ) where
+  pub block-none : (left : ℕ) → length b ≡ 0 → Refused 40 0 ≡ blockTest left room b
   unfolding blockTest when _then_
-  block-none left room = rw (eq-eqb (length b) 0 none)
+  block-none left e = rw (eq-eqb (length b) 0 e)
 
-  pub layer-none : (room : ℕ) → Refused 40 0 ≡ layerTest room b
+  pub layer-none : length b ≡ 0 → Refused 40 0 ≡ layerTest room b
   unfolding layerTest when _then_
-  layer-none room = rw (eq-eqb (length b) 0 none)
+  layer-none e = rw (eq-eqb (length b) 0 e)
 
--- another, and what the code was told of its filter: whether it is format 0 and whether it is a filter
-pub record Judged (f : Filter) (b : List ℕ) (raw filters : Bool) : Type 0 where
-  pub some : length b ≡ 0 → ⊥
-  pub is : f ≡ filterAt b
-  pub is-raw : raw ≡ isRaw f
-  pub is-filter : filters ≡ isFilter f
+  -- the code was told whether its filter f is a filter, and of a block also whether it is format 0
+  module _ (some : length b ≡ 0 → ⊥) (f : Filter) (is : f ≡ filterAt b) (filters : Bool) (is-filter : filters ≡ isFilter f) where
+    pub layer-other : not filters ≡ true → Refused 41 0 ≡ layerTest room b
+    unfolding layerTest when _then_
+    layer-other e = rw (ne-eqb (length b) 0 some, ← is, ← is-filter, e)
 
--- a block's tests, one after another
-module _ {f : Filter} {b : List ℕ} {raw filters : Bool} (j : Judged f b raw filters) (left room : ℕ) where
-  pub block-other : (not raw && not filters) ≡ true → Refused 41 0 ≡ blockTest left room b
-  unfolding blockTest when _then_
-  block-other e = rw (ne-eqb (length b) 0 (j .some), ← j .is, ← j .is-raw, ← j .is-filter, e)
+    pub layer-contents : (answer : Answer) → not filters ≡ false → answer ≡ contentsTest f room b → answer ≡ layerTest room b
+    unfolding layerTest when _then_
+    layer-contents answer e a = rw (ne-eqb (length b) 0 some, ← is, ← is-filter, e) a
 
-  pub block-ninth : (not raw && not filters) ≡ false → (filters && eqb left 0) ≡ true → Refused 44 0 ≡ blockTest left room b
-  unfolding blockTest when _then_
-  block-ninth o e = rw (ne-eqb (length b) 0 (j .some), ← j .is, ← j .is-raw, ← j .is-filter, o, e)
+    module _ (left : ℕ) (raw : Bool) (is-raw : raw ≡ isRaw f) where
+      pub block-other : (not raw && not filters) ≡ true → Refused 41 0 ≡ blockTest left room b
+      unfolding blockTest when _then_
+      block-other e = rw (ne-eqb (length b) 0 some, ← is, ← is-raw, ← is-filter, e)
 
-  pub block-contents : (not raw && not filters) ≡ false → (filters && eqb left 0) ≡ false → contentsTest f room b ≡ blockTest left room b
-  unfolding blockTest when _then_
-  block-contents o e = rw (ne-eqb (length b) 0 (j .some), ← j .is, ← j .is-raw, ← j .is-filter, o, e)
+      pub block-ninth : (not raw && not filters) ≡ false → (filters && eqb left 0) ≡ true → Refused 44 0 ≡ blockTest left room b
+      unfolding blockTest when _then_
+      block-ninth o e = rw (ne-eqb (length b) 0 some, ← is, ← is-raw, ← is-filter, o, e)
 
--- and a layer's
-module _ (f : Filter) (b : List ℕ) (some : length b ≡ 0 → ⊥) (is : f ≡ filterAt b) (room : ℕ) where
-  pub layer-other : isFilter f ≡ false → Refused 41 0 ≡ layerTest room b
-  unfolding layerTest when _then_
-  layer-other e = rw (ne-eqb (length b) 0 some, ← is, e)
+      pub block-contents : (answer : Answer) → (not raw && not filters) ≡ false → (filters && eqb left 0) ≡ false → answer ≡ contentsTest f room b
+          → answer ≡ blockTest left room b
+      unfolding blockTest when _then_
+      block-contents answer o e a = rw (ne-eqb (length b) 0 some, ← is, ← is-raw, ← is-filter, o, e) a
 
-  pub layer-contents : isFilter f ≡ true → contentsTest f room b ≡ layerTest room b
-  unfolding layerTest when _then_
-  layer-contents e = rw (ne-eqb (length b) 0 some, ← is, e)
+pub ruleset judging = (known-at, block-none, block-other, block-ninth, block-contents, layer-none, layer-other, layer-contents, needs)
 
 -- a block that passed its tests can be opened
 opens : (room n : ℕ) (b : List ℕ) → contentsTest (filterAt b) room b ≡ Accepted → room ≤ n → Opens (filterAt b) b n

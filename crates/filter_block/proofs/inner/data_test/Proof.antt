@@ -1,5 +1,6 @@
 use Prim.Native.Nat.{_≤_}
 use mathlib.Core.Path.{_≡_, sym, ap, _∙_}
+use native.Mathlib.Omega.{arith}
 use borrow.Author.Needs.{needs}
 use lib.ListN.{length}
 use Rattle.answers.specs.declared.Answer.{Answer}
@@ -21,7 +22,7 @@ tested s e h = h ∙ ap (λ (f : Filter). dataTest f (s .args .room) (s .args .b
 
 sub-room-test : tie.Need-sub-room-test
 unfolding headerLength
-sub-room-test c = known (c .before .before .before) (c .enum-told .given .1) .1
+sub-room-test c = omega (arith, known (c .before .before .before) (c .enum-told .given .1) .1)
 
 narrow-test-requires : tie.Need-narrow-test-requires
 unfolding headerLength
@@ -29,7 +30,7 @@ narrow-test-requires c κs = let k = known (c .before .before .before .before) (
 
 sub-room-test-2 : tie.Need-sub-room-test-2
 unfolding headerLength
-sub-room-test-2 c = known (c .before .before .before) (c .enum-told2 .given .1) .1
+sub-room-test-2 c = omega (arith, known (c .before .before .before) (c .enum-told2 .given .1) .1)
 
 pub data-test-spec : {M : Type 1} → statement M
 data-test-spec =

@@ -1,8 +1,8 @@
 -- The format byte, and the header of formats 64, 65 and 66. Assumes nothing.
+use Prim.Native.Nat.{ℕ, _<_, _≤_}
 use mathlib.Core.Path.{_≡_, refl, subst}
 use mathlib.Core.Bool.{Bool, true, false, cond}
 use mathlib.Core.List.{List, [], _∷_}
-use Prim.Native.Nat.{ℕ, suc, _<_, _≤_}
 use native.Mathlib.Omega.{arith}
 use lib.Dec.{eqb}
 use lib.ListN.{length, getD}
@@ -30,5 +30,5 @@ level-in w b h = let k = delta-start w (headerLength (Delta w)) refl in omega ar
 pub told : (f g : Filter) (b : List ℕ) → f ≡ g → (Known f) × (headerLength f ≤ length b) → (Known g) × (headerLength g ≤ length b)
 told f g b e h = subst (λ (x : Filter). (Known x) × (headerLength x ≤ length b)) e h
 
-pub told-fits : (f g : Filter) (b : List ℕ) → f ≡ g → (Known f) × (headerLength f ≤ length b) → headerLength g ≤ length b
-told-fits f g b e h = told f g b e h .1
+pub told-fits : (f g : Filter) (b : List ℕ) → f ≡ g → headerLength f ≤ length b → headerLength g ≤ length b
+told-fits f g b e h = subst (λ (x : Filter). headerLength x ≤ length b) e h

@@ -1,7 +1,7 @@
 -- A block's filter undone into a buffer, filter by filter. Assumes nothing.
-use mathlib.Core.Path.{_≡_, refl, sym, ap, _∙_, subst}
-use mathlib.Core.List.{List, []}
 use Prim.Native.Nat.{ℕ, _+_, _-_, _%_, _≤_}
+use mathlib.Core.Path.{_≡_, refl, sym, ap, _∙_, subst}
+use mathlib.Core.List.{List}
 use native.Mathlib.Omega.{arith}
 use lib.ListN.{length, drop, length-drop}
 use Rattle.octets.specs.Parts.{part, putAt}
@@ -13,12 +13,12 @@ use Rattle.filter_format.specs.Delta.{undeltaBytes}
 use Rattle.filter_format.specs.Narrow.{widen, lacking}
 use Rattle.filter_format.specs.Follow.{unfollowed}
 use Rattle.filter_format.specs.Block.{headerLength, levelAt, followAt, dataAt, decoded, undone}
-use Rattle.filter_format.proofs.Blocks.{whole-data, none-lacking, length-raw, length-delta-undone, length-follow-undone}
+use Rattle.filter_format.proofs.Blocks.{whole-data, none-lacking, length-delta-undone, length-follow-undone}
 use Rattle.filter_block.specs.Tests.{Opens}
 use Rattle.filter_block.proofs.Tests.{part-end}
 
 -- what was put, as the promise says it
-abbrev Put : Filter → List ℕ → ℕ → List ℕ → List ℕ → Type 0
+abbrev pub Put : Filter → List ℕ → ℕ → List ℕ → List ℕ → Type 0
 Put f b r out out' = (r ≡ length (undone f b)) × (out' ≡ putAt 0 (undone f b) out)
 
 put-as : (f : Filter) (b xs out out' : List ℕ) (r : ℕ) → undone f b ≡ xs → r ≡ length xs → out' ≡ putAt 0 xs out → Put f b r out out'

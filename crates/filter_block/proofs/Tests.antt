@@ -1,16 +1,15 @@
 -- The tests of a block as the code makes them, filter by filter. Assumes nothing.
+use Prim.Native.Nat.{ℕ, _-_, _*_, _/_, _%_, _<_, _≤_}
 use mathlib.Core.Path.{_≡_, refl, sym, ap, _∙_}
 use mathlib.Core.Bool.{Bool, true, false, cond, not}
 use mathlib.Core.List.{List}
-use Prim.Native.Nat.{ℕ, _-_, _*_, _/_, _%_, _<_, _≤_}
 use native.Mathlib.Nat.{div-lt-iff-lt-mul, le-div-iff-mul-le}
 use native.Mathlib.Omega.{arith}
 use borrow.Author.Tests.{lt-ltb, le-ltb, eq-eqb, ne-eqb}
-use lib.Dec.{eqb, ltb}
-use lib.ListN.{length, drop, take, length-drop}
+use lib.Dec.{ltb}
+use lib.ListN.{length, drop, length-drop}
 use lib.Seq.{take-all}
 use Rattle.octets.specs.Parts.{part}
-use Rattle.answers.specs.declared.Answer.{Answer}
 use Rattle.answers.specs.declared.Answer.the-variants.{Accepted, Refused}
 use Rattle.answers.specs.Answer.{when, _then_}
 use Rattle.filter_format.specs.declared.Filter.{Filter}
@@ -18,8 +17,7 @@ use Rattle.filter_format.specs.declared.Filter.the-variants.{Raw, Delta, Narrow
 use Rattle.filter_format.specs.Units.{IsWidth}
 use Rattle.filter_format.specs.Narrow.{lacking, begun}
 use Rattle.filter_format.specs.Block.{headerLength, levelAt, followAt, dataAt, badHeader, badData, decoded, undone, contentsTest}
-use Rattle.filter_format.proofs.Blocks.{whole-data, none-lacking, length-raw, length-delta-undone, length-widened, length-follow-undone}
-use Rattle.filter_narrow.specs.declared.Counted.{Counted}
+use Rattle.filter_format.proofs.Blocks.{none-lacking, length-raw, length-delta-undone, length-widened, length-follow-undone}
 use Rattle.filter_narrow.specs.declared.Counted.the-variants.{Units, Lacking}
 use Rattle.filter_narrow.specs.Counted.{counted}
 use Rattle.filter_block.specs.Tests.{dataTest}

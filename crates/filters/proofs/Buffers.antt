@@ -1,18 +1,18 @@
 -- A buffer with what was made at its front and zeros behind it. Assumes nothing.
-use mathlib.Core.Path.{_≡_, refl, sym, ap, _∙_}
+use Prim.Native.Nat.{ℕ, _+_, _-_, _<_, _≤_}
+use mathlib.Core.Path.{_≡_, sym, ap, _∙_}
 use mathlib.Core.Bool.{Bool, true, false, not}
-use mathlib.Core.List.{List, [], _∷_, _++_, append-nil}
-use Prim.Native.Nat.{ℕ, _+_, _-_, _<_, _≤_, min}
+use mathlib.Core.List.{List, [], _++_, append-nil}
 use native.Mathlib.Omega.{arith}
-use lib.ListN.{length, take, drop, replicate, length-replicate, length-take, drop-of-length-le}
+use lib.ListN.{length, take, replicate, length-replicate, drop-of-length-le}
 use lib.Seq.{length-take-le}
 use Rattle.octets.specs.Parts.{part, putAt, filled}
 use Rattle.octets.proofs.Lists.{take-front, length-put, length-part}
 use Rattle.answers.specs.declared.Answer.{Answer}
 use Rattle.answers.specs.declared.Answer.the-variants.{Accepted}
 use Rattle.filter_format.specs.declared.Filtered.{Filtered}
-use Rattle.filter_format.specs.Undo.{Result, making, refusing, filtered, firstAfter, secondAfter}
-use Rattle.filters.specs.Sides.{after, Undid}
+use Rattle.filter_format.specs.Undo.{Result, making, refusing, filtered, secondAfter}
+use Rattle.filters.specs.Sides.{Undid}
 
 pub clear : (n : ℕ) (s : List ℕ) → n ≤ length s → putAt n (replicate (length s - n) 0) s ≡ filled (length s) (take n s)
 unfolding putAt filled
@@ -21,40 +21,46 @@ clear n s h =
     let k : length (take n s) ≡ n = length-take-le n s h in
     rw (l, k, drop-of-length-le s (let e : length s ≤ n + (length s - n) = omega arith in e), append-nil (take n s ++ replicate (length s - n) 0))
 
--- xs put at the front, and zeros behind it
-pub made : (xs s s₁ s₂ : List ℕ) (n : ℕ) → n ≡ length xs → length xs ≤ length s → s₁ ≡ putAt 0 xs s → s₂ ≡ filled (length s₁) (take n s₁) → s₂ ≡ filled (length s) xs
-made xs s s₁ s₂ n l h e f =
-    let long : length s₁ ≡ length s = ap length e ∙ length-put 0 xs s (omega arith) in
-    let front : take n s₁ ≡ xs = ap (λ (k : ℕ). take k s₁) l ∙ ap (take (length xs)) e ∙ take-front xs s in
-    f ∙ rw (long, front)
+-- xs, n bytes of it, was put at the front of s, which is s₁ then
+pub record Holds (n : ℕ) (xs s s₁ : List ℕ) : Type 0 where
+  pub fits : length xs ≤ length s
+  pub is : s₁ ≡ putAt 0 xs s
+  pub count : n ≡ length xs
 
--- the same as the promise says it, of n bytes behind the format byte
-pub made-part : (here s s₁ s₂ t t' : List ℕ) (n : ℕ) (r : Filtered) → n < length here → n ≤ length s → s₁ ≡ putAt 0 (part 1 n here) s → s₂ ≡ filled (length s₁) (take n s₁)
-    → t' ≡ secondAfter t → r ≡ filtered (making (part 1 n here)) → Undid (making (part 1 n here)) true s s₂ t t' r
-made-part here s s₁ s₂ t t' n r h k e f g a =
-    let l : length (part 1 n here) ≡ n = length-part 1 n here (omega arith) in
-    (a, made (part 1 n here) s s₁ s₂ n (sym l) (omega arith) e f, g)
+-- the data behind the format byte of `here`
+module _ {n : ℕ} {s s₁ : List ℕ} (here : List ℕ) (within : n < length here) (fits : n ≤ length s) (is : s₁ ≡ putAt 0 (part 1 n here) s) where
+  pub holds-part : Holds n (part 1 n here) s s₁
+  holds-part = let l = length-part 1 n here (omega arith) in record { fits = omega arith; is = is; count = sym l }
 
--- the answer with the number of bytes made
-pub counted : (bytes : List ℕ) (n : ℕ) → n ≡ length bytes → _≡_ {A = Filtered} (record { answer = Accepted; made = n }) (filtered (making bytes))
-counted bytes n e = rw e
+module _ {n : ℕ} {xs s s₁ : List ℕ} (m : Holds n xs s s₁) where
+  pub held-length : length s₁ ≡ length s
+  held-length = ap length (m .is) ∙ length-put 0 xs s (omega (arith, m .fits))
 
-pub counted-part : (here : List ℕ) (n : ℕ) → n < length here → _≡_ {A = Filtered} (record { answer = Accepted; made = n }) (filtered (making (part 1 n here)))
-counted-part here n h = counted (part 1 n here) n (sym (length-part 1 n here (omega arith)))
+  pub held-inside : n ≤ length s₁
+  held-inside = omega (arith, held-length, m .fits, m .count)
+
+  pub held-front : take n s₁ ≡ xs
+  held-front = ap (λ (k : ℕ). take k s₁) (m .count) ∙ ap (take (length xs)) (m .is) ∙ take-front xs s
+
+  -- then zeros behind it, and the other buffer zeroed: a call that makes xs
+  pub placed : {s₂ t' : List ℕ} (t : List ℕ) → s₂ ≡ filled (length s₁) (take n s₁) → t' ≡ secondAfter t
+      → Undid (making xs) true s s₂ t t' (record { answer = Accepted; made = n })
+  placed t e g = (rw (m .count), e ∙ rw (held-length, held-front), g)
+
+-- the same of another list of the same length
+pub as-long : (result : Result) (first : Bool) {here' there' : List ℕ} {r : Filtered} (here₁ here there : List ℕ) → length here₁ ≡ length here
+    → Undid result first here₁ here' there there' r → Undid result first here here' there there' r
+as-long result true here₁ here there e u = (u .0, u .1 ∙ ap (λ (n : ℕ). filled n (result .bytes)) e, u .2)
+as-long result false here₁ here there e u = (u .0, u .1 ∙ ap (λ (n : ℕ). filled n []) e, u .2)
 
 -- the buffers having changed places
-pub swapped : (result : Result) (first : Bool) (here here' there c there' : List ℕ) (r : Filtered) → length c ≡ length there
-    → Undid result (not first) c there' here here' r → Undid result first here here' there there' r
-swapped result true here here' there c there' r e u = (u .0, u .2, u .1 ∙ ap (λ (n : ℕ). filled n []) e)
-swapped result false here here' there c there' r e u = (u .0, u .2, u .1 ∙ ap (λ (n : ℕ). filled n (result .bytes)) e)
-
--- the result put another way
-pub same-result : (result other : Result) (first : Bool) (here here' there there' : List ℕ) (r : Filtered) → result ≡ other
-    → Undid other first here here' there there' r → Undid result first here here' there there' r
-same-result result other first here here' there there' r e u = rw e u
+pub swapped : (result : Result) (first : Bool) {here' there' : List ℕ} {r : Filtered} (here there : List ℕ)
+    → Undid result (not first) there there' here here' r → Undid result first here here' there there' r
+swapped result true here there u = (u .0, u .2, u .1)
+swapped result false here there u = (u .0, u .2, u .1)
 
 -- both zeroed
-pub refused : (a : Answer) (first : Bool) (here here' there there' : List ℕ) (r : Filtered)
+pub refused : (a : Answer) (first : Bool) {here' there' : List ℕ} {r : Filtered} (here there : List ℕ)
     → (r ≡ filtered (refusing a)) × (here' ≡ secondAfter here) × (there' ≡ secondAfter there) → Undid (refusing a) first here here' there there' r
-refused a true here here' there there' r u = u
-refused a false here here' there there' r u = u
+refused a true here there u = u
+refused a false here there u = u

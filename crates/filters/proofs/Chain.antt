@@ -1,12 +1,13 @@
 -- The tests of a block as the code makes them, and what undoing comes to by them. Assumes nothing.
-use mathlib.Core.Path.{_≡_, refl, sym, ap, _∙_, subst}
-use mathlib.Core.Bool.{Bool, true, false, cond, not, _&&_}
-use mathlib.Core.List.{List, []}
-use Prim.Native.Nat.{ℕ, zero, suc, _+_, _-_, _<_, _≤_}
+use Prim.Native.Nat.{ℕ, zero, suc, _-_, _<_, _≤_}
+use mathlib.Core.Path.{_≡_, refl, sym, subst}
+use mathlib.Core.Bool.{Bool, true, false, not, _&&_}
+use mathlib.Core.List.{List}
 use native.Mathlib.Omega.{arith}
+use borrow.Author.Needs.{needs}
 use borrow.Author.Tests.{eq-eqb, ne-eqb}
 use lib.Dec.{eqb}
-use lib.ListN.{length, take, drop, getD}
+use lib.ListN.{length, take, getD}
 use Rattle.octets.specs.Parts.{part}
 use Rattle.octets.proofs.Lists.{drop-take}
 use Rattle.answers.specs.declared.Answer.{Answer}
@@ -15,8 +16,8 @@ use Rattle.answers.specs.Answer.{when, _then_, acceptedOr}
 use Rattle.answers.proofs.Answers.{first-ok, second-ok, when-ok}
 use Rattle.filter_format.specs.declared.Filter.{Filter}
 use Rattle.filter_format.specs.declared.Filter.the-variants.{Raw, Delta, Narrow, Follow, Other}
-use Rattle.filter_format.specs.Block.{Known, filterAt, isRaw, isFilter, headerLength, dataAt, decoded, undone, contentsTest}
-use Rattle.filter_format.specs.Undo.{Result, making, refusing, tested, blockTest, layerTest, undoFrom, undoLayer}
+use Rattle.filter_format.specs.Block.{Known, filterAt, isRaw, isFilter, headerLength, decoded, undone, contentsTest}
+use Rattle.filter_format.specs.Undo.{making, refusing, blockTest, layerTest, undoFrom}
 use Rattle.filter_format.proofs.Blocks.{known, header-fits, data-right, undone-fits}
 use Rattle.filter_block.specs.Tests.{Opens}
 
@@ -24,48 +25,41 @@ use Rattle.filter_block.specs.Tests.{Opens}
 pub known-at : (f : Filter) (b : List ℕ) → f ≡ filterAt b → Known f
 known-at f b e = subst Known (sym e) (known (getD b 0 0))
 
--- what the code was told of the filter, as the tests ask it
-module _ (f : Filter) (b : List ℕ) (e : f ≡ filterAt b) (i t : Bool) (is : i ≡ isFilter f) where
-  filters : i ≡ isFilter (filterAt b)
-  filters = is ∙ ap isFilter e
-
-  pub other-told : (r : Bool) → r ≡ isRaw f → (not r && not i) ≡ t → (not (isRaw (filterAt b)) && not (isFilter (filterAt b))) ≡ t
-  other-told r q h = let k : r ≡ isRaw (filterAt b) = q ∙ ap isRaw e in rw (← k, ← filters) h
-
-  pub ninth-told : (left : ℕ) → (i && eqb left 0) ≡ t → (isFilter (filterAt b) && eqb left 0) ≡ t
-  ninth-told left h = rw (← filters) h
-
--- a block's tests, one after another
-module _ (left room : ℕ) (b : List ℕ) where
-  pub block-none : length b ≡ 0 → Refused 40 0 ≡ blockTest left room b
+-- the tests of a block and of a layer as the code makes them, one after another
+module _ (b : List ℕ) (room : ℕ) where
+  pub block-none : (left : ℕ) → length b ≡ 0 → Refused 40 0 ≡ blockTest left room b
   unfolding blockTest when _then_
-  block-none e = rw (eq-eqb (length b) 0 e)
+  block-none left e = rw (eq-eqb (length b) 0 e)
 
   pub layer-none : length b ≡ 0 → Refused 40 0 ≡ layerTest room b
   unfolding layerTest when _then_
   layer-none e = rw (eq-eqb (length b) 0 e)
 
-  module _ (some : length b ≡ 0 → ⊥) where
-    pub block-other : (not (isRaw (filterAt b)) && not (isFilter (filterAt b))) ≡ true → Refused 41 0 ≡ blockTest left room b
-    unfolding blockTest when _then_
-    block-other e = rw (ne-eqb (length b) 0 some, e)
-
-    pub block-ninth : (not (isRaw (filterAt b)) && not (isFilter (filterAt b))) ≡ false → (isFilter (filterAt b) && eqb left 0) ≡ true → Refused 44 0 ≡ blockTest left room b
-    unfolding blockTest when _then_
-    block-ninth o e = rw (ne-eqb (length b) 0 some, o, e)
-
-    pub block-contents : (not (isRaw (filterAt b)) && not (isFilter (filterAt b))) ≡ false → (isFilter (filterAt b) && eqb left 0) ≡ false
-        → contentsTest (filterAt b) room b ≡ blockTest left room b
-    unfolding blockTest when _then_
-    block-contents o e = rw (ne-eqb (length b) 0 some, o, e)
-
-    pub layer-other : isFilter (filterAt b) ≡ false → Refused 41 0 ≡ layerTest room b
+  -- the code was told whether its filter f is a filter, and of a block also whether it is format 0
+  module _ (some : length b ≡ 0 → ⊥) (f : Filter) (is : f ≡ filterAt b) (filters : Bool) (is-filter : filters ≡ isFilter f) where
+    pub layer-other : not filters ≡ true → Refused 41 0 ≡ layerTest room b
     unfolding layerTest when _then_
-    layer-other e = rw (ne-eqb (length b) 0 some, e)
+    layer-other e = rw (ne-eqb (length b) 0 some, ← is, ← is-filter, e)
 
-    pub layer-contents : isFilter (filterAt b) ≡ true → contentsTest (filterAt b) room b ≡ layerTest room b
+    pub layer-contents : (answer : Answer) → not filters ≡ false → answer ≡ contentsTest f room b → answer ≡ layerTest room b
     unfolding layerTest when _then_
-    layer-contents e = rw (ne-eqb (length b) 0 some, e)
+    layer-contents answer e a = rw (ne-eqb (length b) 0 some, ← is, ← is-filter, e) a
+
+    module _ (left : ℕ) (raw : Bool) (is-raw : raw ≡ isRaw f) where
+      pub block-other : (not raw && not filters) ≡ true → Refused 41 0 ≡ blockTest left room b
+      unfolding blockTest when _then_
+      block-other e = rw (ne-eqb (length b) 0 some, ← is, ← is-raw, ← is-filter, e)
+
+      pub block-ninth : (not raw && not filters) ≡ false → (filters && eqb left 0) ≡ true → Refused 44 0 ≡ blockTest left room b
+      unfolding blockTest when _then_
+      block-ninth o e = rw (ne-eqb (length b) 0 some, ← is, ← is-raw, ← is-filter, o, e)
+
+      pub block-contents : (answer : Answer) → (not raw && not filters) ≡ false → (filters && eqb left 0) ≡ false → answer ≡ contentsTest f room b
+          → answer ≡ blockTest left room b
+      unfolding blockTest when _then_
+      block-contents answer o e a = rw (ne-eqb (length b) 0 some, ← is, ← is-raw, ← is-filter, o, e) a
+
+pub ruleset judging = (known-at, block-none, block-other, block-ninth, block-contents, layer-none, layer-other, layer-contents, needs)
 
 -- a block that passed its tests can be opened
 opens : (room n : ℕ) (b : List ℕ) → contentsTest (filterAt b) room b ≡ Accepted → room ≤ n → Opens (filterAt b) b n
@@ -96,7 +90,8 @@ unfolding undoFrom acceptedOr
 undo-refused zero room b n p e = rw e
 undo-refused (suc left) room b n p e = rw e
 
-pub undo-raw : (left room : ℕ) (b : List ℕ) → blockTest left room b ≡ Accepted → isRaw (filterAt b) ≡ true → undoFrom left room b ≡ making (undone (filterAt b) b)
+pub undo-raw : (left room : ℕ) (b : List ℕ) → blockTest left room b ≡ Accepted → isRaw (filterAt b) ≡ true
+    → undoFrom left room b ≡ making (undone (filterAt b) b)
 unfolding undoFrom acceptedOr
 undo-raw zero room b ok r = rw ok
 undo-raw (suc left) room b ok r = rw (ok, r)
@@ -120,7 +115,3 @@ block-opens left room n b ok h = opens room n b (second-ok _ _ (second-ok _ _ (s
 pub raw-part : (f : Filter) (here : List ℕ) (len : ℕ) → isRaw f ≡ true → 0 < len → len ≤ length here → undone f (take len here) ≡ part 1 (len - 1) here
 unfolding undone decoded headerLength
 raw-part f here len r h k = rw (raw-is f r) (drop-take 1 len here h k)
-
--- the contents' test of the filter that the code was told
-pub contents-told : (f : Filter) (room : ℕ) (b : List ℕ) → f ≡ filterAt b → contentsTest f room b ≡ contentsTest (filterAt b) room b
-contents-told f room b e = ap (λ (g : Filter). contentsTest g room b) e

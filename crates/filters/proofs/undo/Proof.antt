@@ -1,12 +1,25 @@
-use Rattle.filters.proofs.Choice.{chosen-refused, chosen-layer, opens-in, raw-made, put-inside, placed, handed, each}
-use lib.ListN.{length}
-use native.Mathlib.Omega.{arith}
-use mathlib.Core.Bool.{true}
 use mathlib.Core.Path.{sym, _∙_}
-use Rattle.filter_format.specs.Block.{undone}
+use mathlib.Core.Bool.{true}
 use borrow.Author.Needs.{needs}
+use Rattle.filter_format.specs.Block.{undone}
+use Rattle.filters.proofs.Buffers.{Holds, held-inside}
+use Rattle.filters.proofs.Choice.{Told, Passed, told-accepted, chosen-refused, opens-here, chosen-raw, chosen-layer, handed, each}
 use Rattle.filters.proofs.undo.Statement.{statement}
 use Rattle.filters.proofs.undo.Tie as tie
+
+-- what the tests of the block told
+told : (c : tie.After-block-test) → let a = c .before .before .before .before .before .before .args in
+    Told 8 (c .before .before .smaller .result) (c .before .filter-at .result) (c .block-test .result) (a .block .now) (a .first .now) (a .second .now)
+told c = record { is-room = c .before .before .smaller .ensures; is-filter = c .before .filter-at .ensures; is-answer = c .block-test .ensures }
+
+passed : (c : tie.After-enum-told) → let b = c .before .before in let a = b .before .before .before .before .before .before .args in
+    Passed 8 (b .before .filter-at .result) (a .block .now) (a .first .now) (a .second .now)
+passed c = told-accepted (told (c .before .before)) (c .enum-told .given .1)
+
+-- the block with its filter undone, in the first buffer
+held : (c : tie.After-undo-filter) → let a = c .before .before .before .before .before .before .before .before .before .before .args in let k = c .undo-filter in
+    Holds (k .result) (undone (c .before .before .before .before .before .filter-at .result) (a .block .now)) (a .first .now) (k .last .0)
+held c = let k = c .undo-filter in record { fits = opens-here (passed (c .before .before)) .3; is = k .ensures .1; count = k .ensures .0 }
 
 pub undo-spec : {M : Type 1} → statement M
 undo-spec =
@@ -19,16 +32,29 @@ undo-spec =
     (λ c κs. search needs)
     (λ c. search needs)
     (λ c. search needs)
-    (λ c. let a = c .before .before .before .before .before .before .before .before .before .before .before .before .before .before .before .before in let k = c .before .before .before .before .refuse in each (chosen-refused (a .args .block .now) (a .args .first .now) (a .args .second .now) 8 (c .before .before .before .before .before .before .before .before .before .before .before .before .smaller .result) (c .before .before .before .before .before .before .before .before .before .before .before .filter-at .result) (c .before .before .before .before .before .before .before .before .before .before .block-test .result) (c .before .before .before .before .before .before .before .before .before .before .before .before .smaller .ensures) (c .before .before .before .before .before .before .before .before .before .before .before .filter-at .ensures) (c .before .before .before .before .before .before .before .before .before .before .block-test .ensures) _ _ true (k .last .0) (k .last .1 .0) (k .result) (c .before .before .before .before .before .before .before .before .answer .given .1) (k .ensures)))
+    (λ c.
+    let k = c .before .before .before .before in
+    each (chosen-refused (told (k .before .before .before .before .before .before)) true (k .before .before .before .before .answer .given .1) (k .refuse .ensures)))
     (λ c. search needs)
-    (λ c κs. let a = c .before .before .before .before .before .before .before .before .before in opens-in (a .args .block .now) (a .args .first .now) (a .args .second .now) 8 (c .before .before .before .before .before .smaller .result) (c .before .before .before .before .filter-at .result) (c .before .before .before .block-test .result) (c .before .before .before .before .before .smaller .ensures) (c .before .before .before .before .filter-at .ensures) (c .before .before .before .block-test .ensures) (c .before .enum-told .given .1) (length (a .args .first .now)) (omega (arith, c .before .before .before .before .before .smaller .ensures)))
+    (λ c κs. opens-here (passed (c .before)))
     (λ c κs. search needs)
-    (λ c κs. let a = c .before .before .before .before .before .before .before .before .before .before .before .before .before .before .before in put-inside (undone (c .before .before .before .before .before .before .before .before .before .before .filter-at .result) (a .args .block .now)) (a .args .first .now) (c .before .before .before .before .before .undo-filter .last .0) (c .before .before .before .before .before .undo-filter .result) ((opens-in (a .args .block .now) (a .args .first .now) (a .args .second .now) 8 (c .before .before .before .before .before .before .before .before .before .before .before .smaller .result) (c .before .before .before .before .before .before .before .before .before .before .filter-at .result) (c .before .before .before .before .before .before .before .before .before .block-test .result) (c .before .before .before .before .before .before .before .before .before .before .before .smaller .ensures) (c .before .before .before .before .before .before .before .before .before .before .filter-at .ensures) (c .before .before .before .before .before .before .before .before .before .block-test .ensures) (c .before .before .before .before .before .before .before .enum-told .given .1) (length (a .args .first .now)) (omega (arith, c .before .before .before .before .before .before .before .before .before .before .before .smaller .ensures))) .3) (c .before .before .before .before .before .undo-filter .ensures .1) (c .before .before .before .before .before .undo-filter .ensures .0))
+    (λ c κs. held-inside (held (c .before .before .before .before .before)))
     (λ c κs. search needs)
     (λ c. search needs)
     (λ c. search needs)
-    (λ c. let a = c .before .before .before .before .before .before .before .before .before .before .before .before .before .before .before .before .before .before .before .before .before .before in each (placed _ (undone (c .before .before .before .before .before .before .before .before .before .before .before .before .before .before .before .before .before .filter-at .result) (a .args .block .now)) (a .args .first .now) (c .before .before .before .before .before .before .before .before .before .before .before .before .undo-filter .last .0) (c .before .before .before .before .before .before .clear-behind .last .0) (a .args .second .now) (c .before .before .clear-behind2 .last .0) (c .before .before .before .before .before .before .before .before .before .before .before .before .undo-filter .result) (raw-made (a .args .block .now) (a .args .first .now) (a .args .second .now) 8 (c .before .before .before .before .before .before .before .before .before .before .before .before .before .before .before .before .before .before .smaller .result) (c .before .before .before .before .before .before .before .before .before .before .before .before .before .before .before .before .before .filter-at .result) (c .before .before .before .before .before .before .before .before .before .before .before .before .before .before .before .before .block-test .result) (c .before .before .before .before .before .before .before .before .before .before .before .before .before .before .before .before .before .before .smaller .ensures) (c .before .before .before .before .before .before .before .before .before .before .before .before .before .before .before .before .before .filter-at .ensures) (c .before .before .before .before .before .before .before .before .before .before .before .before .before .before .before .before .block-test .ensures) (c .before .before .before .before .before .before .before .before .before .before .before .before .before .before .enum-told .given .1) (sym (c .before .before .before .before .before .before .before .before .before .is-raw .ensures) ∙ c .before .before .before .before .before .before .before .before .if1 .taken)) ((opens-in (a .args .block .now) (a .args .first .now) (a .args .second .now) 8 (c .before .before .before .before .before .before .before .before .before .before .before .before .before .before .before .before .before .before .smaller .result) (c .before .before .before .before .before .before .before .before .before .before .before .before .before .before .before .before .before .filter-at .result) (c .before .before .before .before .before .before .before .before .before .before .before .before .before .before .before .before .block-test .result) (c .before .before .before .before .before .before .before .before .before .before .before .before .before .before .before .before .before .before .smaller .ensures) (c .before .before .before .before .before .before .before .before .before .before .before .before .before .before .before .before .before .filter-at .ensures) (c .before .before .before .before .before .before .before .before .before .before .before .before .before .before .before .before .block-test .ensures) (c .before .before .before .before .before .before .before .before .before .before .before .before .before .before .enum-told .given .1) (length (a .args .first .now)) (omega (arith, c .before .before .before .before .before .before .before .before .before .before .before .before .before .before .before .before .before .before .smaller .ensures))) .3) (c .before .before .before .before .before .before .before .before .before .before .before .before .undo-filter .ensures .0) (c .before .before .before .before .before .before .before .before .before .before .before .before .undo-filter .ensures .1) (c .before .before .before .before .before .before .clear-behind .ensures) (c .before .before .clear-behind2 .ensures)))
-    (λ c κs. let a = c .before .before .before .before .before .before .before .before .before .before .before .before .before .before .before .before in put-inside (undone (c .before .before .before .before .before .before .before .before .before .before .before .filter-at .result) (a .args .block .now)) (a .args .first .now) (c .before .before .before .before .before .before .undo-filter .last .0) (c .before .before .before .before .before .before .undo-filter .result) ((opens-in (a .args .block .now) (a .args .first .now) (a .args .second .now) 8 (c .before .before .before .before .before .before .before .before .before .before .before .before .smaller .result) (c .before .before .before .before .before .before .before .before .before .before .before .filter-at .result) (c .before .before .before .before .before .before .before .before .before .before .block-test .result) (c .before .before .before .before .before .before .before .before .before .before .before .before .smaller .ensures) (c .before .before .before .before .before .before .before .before .before .before .before .filter-at .ensures) (c .before .before .before .before .before .before .before .before .before .before .block-test .ensures) (c .before .before .before .before .before .before .before .before .enum-told .given .1) (length (a .args .first .now)) (omega (arith, c .before .before .before .before .before .before .before .before .before .before .before .before .smaller .ensures))) .3) (c .before .before .before .before .before .before .undo-filter .ensures .1) (c .before .before .before .before .before .before .undo-filter .ensures .0))
+    (λ c.
+    let z = c .before .before in
+    let i = z .before .before .before .before .before .before in
+    let u = i .before .before .before .before in
+    let raw = sym (i .before .is-raw .ensures) ∙ i .if1 .taken in
+    each (chosen-raw (passed (u .before .before)) raw (held u) (z .before .before .before .before .clear-behind .ensures) (z .clear-behind2 .ensures)))
+    (λ c κs. held-inside (held (c .before .before .before .before .before .before)))
     (λ c. search needs)
     (λ c. search needs)
-    (λ c. let a = c .before .before .before .before .before .before .before .before .before .before .before .before .before .before .before .before .before .before .before .before .before in let k = c .before .before .before .before .choose in each (chosen-layer (a .args .block .now) (a .args .first .now) (a .args .second .now) 8 (c .before .before .before .before .before .before .before .before .before .before .before .before .before .before .before .before .before .smaller .result) (c .before .before .before .before .before .before .before .before .before .before .before .before .before .before .before .before .filter-at .result) (c .before .before .before .before .before .before .before .before .before .before .before .before .before .before .before .block-test .result) (c .before .before .before .before .before .before .before .before .before .before .before .before .before .before .before .before .before .smaller .ensures) (c .before .before .before .before .before .before .before .before .before .before .before .before .before .before .before .before .filter-at .ensures) (c .before .before .before .before .before .before .before .before .before .before .before .before .before .before .before .block-test .ensures) (c .before .before .before .before .before .before .before .before .before .before .before .before .before .enum-told .given .1) true (k .last .0) (k .last .1 .0) (k .result) (sym (c .before .before .before .before .before .before .before .before .is-raw .ensures) ∙ c .before .before .before .before .before .before .before .if1 .left) (handed (undone (c .before .before .before .before .before .before .before .before .before .before .before .before .before .before .before .before .filter-at .result) (a .args .block .now)) (a .args .first .now) (c .before .before .before .before .before .before .before .before .before .before .before .undo-filter .last .0) (c .before .before .before .before .before .before .before .before .before .before .before .undo-filter .result) ((opens-in (a .args .block .now) (a .args .first .now) (a .args .second .now) 8 (c .before .before .before .before .before .before .before .before .before .before .before .before .before .before .before .before .before .smaller .result) (c .before .before .before .before .before .before .before .before .before .before .before .before .before .before .before .before .filter-at .result) (c .before .before .before .before .before .before .before .before .before .before .before .before .before .before .before .block-test .result) (c .before .before .before .before .before .before .before .before .before .before .before .before .before .before .before .before .before .smaller .ensures) (c .before .before .before .before .before .before .before .before .before .before .before .before .before .before .before .before .filter-at .ensures) (c .before .before .before .before .before .before .before .before .before .before .before .before .before .before .before .block-test .ensures) (c .before .before .before .before .before .before .before .before .before .before .before .before .before .enum-told .given .1) (length (a .args .first .now)) (omega (arith, c .before .before .before .before .before .before .before .before .before .before .before .before .before .before .before .before .before .smaller .ensures))) .3) (c .before .before .before .before .before .before .before .before .before .before .before .undo-filter .ensures .1) (c .before .before .before .before .before .before .before .before .before .before .before .undo-filter .ensures .0) 7 true (a .args .second .now) (k .last .1 .0) (k .last .0) (k .result) (k .ensures)))))
+    (λ c.
+    let k = c .before .before .before .before in
+    let i = k .before .before .before in
+    let u = i .before .before .before .before in
+    let second = u .before .before .before .before .before .before .before .before .before .before .args .second .now in
+    let not-raw = sym (i .before .is-raw .ensures) ∙ i .if1 .left in
+    each (chosen-layer (passed (u .before .before)) not-raw true (handed (held u) 7 true second (k .choose .ensures)))))

@@ -1,8 +1,22 @@
-use Rattle.filters.proofs.Choice.{alone-refused, alone-opens, alone-made, put-inside, placed, each}
-use Rattle.filter_format.specs.Block.{undone}
 use borrow.Author.Needs.{needs}
+use Rattle.filter_format.specs.Block.{undone}
+use Rattle.filters.proofs.Buffers.{Holds, held-inside}
+use Rattle.filters.proofs.Choice.{ToldAlone, alone-refused, alone-opens, alone-placed, each}
 use Rattle.filters.proofs.undo_layer.Statement.{statement}
 use Rattle.filters.proofs.undo_layer.Tie as tie
+
+-- what the tests of the layer told
+told : (c : tie.After-layer-test) → let a = c .before .before .before .before .before .before .args in
+    ToldAlone (c .before .before .smaller .result) (c .before .filter-at .result) (c .layer-test .result) (a .block .now) (a .first .now) (a .second .now)
+told c = record { is-room = c .before .before .smaller .ensures; is-filter = c .before .filter-at .ensures; is-answer = c .layer-test .ensures }
+
+-- the layer undone, in the first buffer
+held : (c : tie.After-undo-filter) → let a = c .before .before .before .before .before .before .before .before .before .before .args in let k = c .undo-filter in
+    Holds (k .result) (undone (c .before .before .before .before .before .filter-at .result) (a .block .now)) (a .first .now) (k .last .0)
+held c =
+    let k = c .undo-filter in
+    let o = alone-opens (told (c .before .before .before .before)) (c .before .before .enum-told .given .1) in
+    record { fits = o .3; is = k .ensures .1; count = k .ensures .0 }
 
 pub undo-layer-spec : {M : Type 1} → statement M
 undo-layer-spec =
@@ -15,11 +29,17 @@ undo-layer-spec =
     (λ c κs. search needs)
     (λ c. search needs)
     (λ c. search needs)
-    (λ c. let a = c .before .before .before .before .before .before .before .before .before .before .before .before .before .before .before .before in let k = c .before .before .before .before .refuse in each (alone-refused (a .args .block .now) (a .args .first .now) (a .args .second .now) (c .before .before .before .before .before .before .before .before .before .before .before .before .smaller .result) (c .before .before .before .before .before .before .before .before .before .before .before .filter-at .result) (c .before .before .before .before .before .before .before .before .before .before .layer-test .result) (c .before .before .before .before .before .before .before .before .before .before .before .before .smaller .ensures) (c .before .before .before .before .before .before .before .before .before .before .before .filter-at .ensures) (c .before .before .before .before .before .before .before .before .before .before .layer-test .ensures) _ _ (k .last .0) (k .last .1 .0) (k .result) (c .before .before .before .before .before .before .before .before .answer .given .1) (k .ensures)))
+    (λ c.
+    let k = c .before .before .before .before in
+    each (alone-refused (told (k .before .before .before .before .before .before)) (k .before .before .before .before .answer .given .1) (k .refuse .ensures)))
     (λ c. search needs)
-    (λ c κs. let a = c .before .before .before .before .before .before .before .before .before in alone-opens (a .args .block .now) (a .args .first .now) (a .args .second .now) (c .before .before .before .before .before .smaller .result) (c .before .before .before .before .filter-at .result) (c .before .before .before .layer-test .result) (c .before .before .before .before .before .smaller .ensures) (c .before .before .before .before .filter-at .ensures) (c .before .before .before .layer-test .ensures) (c .before .enum-told .given .1))
-    (λ c κs. let a = c .before .before .before .before .before .before .before .before .before .before .before .before .before in put-inside (undone (c .before .before .before .before .before .before .before .before .filter-at .result) (a .args .block .now)) (a .args .first .now) (c .before .before .before .undo-filter .last .0) (c .before .before .before .undo-filter .result) (alone-opens (a .args .block .now) (a .args .first .now) (a .args .second .now) (c .before .before .before .before .before .before .before .before .before .smaller .result) (c .before .before .before .before .before .before .before .before .filter-at .result) (c .before .before .before .before .before .before .before .layer-test .result) (c .before .before .before .before .before .before .before .before .before .smaller .ensures) (c .before .before .before .before .before .before .before .before .filter-at .ensures) (c .before .before .before .before .before .before .before .layer-test .ensures) (c .before .before .before .before .before .enum-told .given .1) .3) (c .before .before .before .undo-filter .ensures .1) (c .before .before .before .undo-filter .ensures .0))
+    (λ c κs. alone-opens (told (c .before .before .before)) (c .before .enum-told .given .1))
+    (λ c κs. held-inside (held (c .before .before .before)))
     (λ c κs. search needs)
     (λ c. search needs)
     (λ c. search needs)
-    (λ c. let a = c .before .before .before .before .before .before .before .before .before .before .before .before .before .before .before .before .before .before .before .before in each (placed _ (undone (c .before .before .before .before .before .before .before .before .before .before .before .before .before .before .before .filter-at .result) (a .args .block .now)) (a .args .first .now) (c .before .before .before .before .before .before .before .before .before .before .undo-filter .last .0) (c .before .before .before .before .before .before .clear-behind .last .0) (a .args .second .now) (c .before .before .clear-behind2 .last .0) (c .before .before .before .before .before .before .before .before .before .before .undo-filter .result) (alone-made (a .args .block .now) (a .args .first .now) (a .args .second .now) (c .before .before .before .before .before .before .before .before .before .before .before .before .before .before .before .before .smaller .result) (c .before .before .before .before .before .before .before .before .before .before .before .before .before .before .before .filter-at .result) (c .before .before .before .before .before .before .before .before .before .before .before .before .before .before .layer-test .result) (c .before .before .before .before .before .before .before .before .before .before .before .before .before .before .before .before .smaller .ensures) (c .before .before .before .before .before .before .before .before .before .before .before .before .before .before .before .filter-at .ensures) (c .before .before .before .before .before .before .before .before .before .before .before .before .before .before .layer-test .ensures) (c .before .before .before .before .before .before .before .before .before .before .before .before .enum-told .given .1)) ((alone-opens (a .args .block .now) (a .args .first .now) (a .args .second .now) (c .before .before .before .before .before .before .before .before .before .before .before .before .before .before .before .before .smaller .result) (c .before .before .before .before .before .before .before .before .before .before .before .before .before .before .before .filter-at .result) (c .before .before .before .before .before .before .before .before .before .before .before .before .before .before .layer-test .result) (c .before .before .before .before .before .before .before .before .before .before .before .before .before .before .before .before .smaller .ensures) (c .before .before .before .before .before .before .before .before .before .before .before .before .before .before .before .filter-at .ensures) (c .before .before .before .before .before .before .before .before .before .before .before .before .before .before .layer-test .ensures) (c .before .before .before .before .before .before .before .before .before .before .before .before .enum-told .given .1)) .3) (c .before .before .before .before .before .before .before .before .before .before .undo-filter .ensures .0) (c .before .before .before .before .before .before .before .before .before .before .undo-filter .ensures .1) (c .before .before .before .before .before .before .clear-behind .ensures) (c .before .before .clear-behind2 .ensures))))
+    (λ c.
+    let z = c .before .before in
+    let u = z .before .before .before .before .before .before .before .before in
+    let ok = u .before .before .enum-told .given .1 in
+    each (alone-placed (told (u .before .before .before .before)) ok (held u) (z .before .before .before .before .clear-behind .ensures) (z .clear-behind2 .ensures))))

@@ -1,7 +1,7 @@
-use Rattle.filter_block.proofs.Headers.{delta-start, level-in}
-use Rattle.filter_format.specs.Block.{badHeader}
 use native.Mathlib.Omega.{arith}
 use borrow.Author.Needs.{needs}
+use Rattle.filter_format.specs.Block.{badHeader}
+use Rattle.filter_block.proofs.Headers.{delta-start, level-in}
 use Rattle.filter_block.proofs.inner.bad_delta_header.Statement.{statement}
 use Rattle.filter_block.proofs.inner.bad_delta_header.Tie as tie
 
@@ -14,8 +14,11 @@ bad-delta-header-spec =
     tie.close
     (tie.spec
     (λ c κs. search needs)
-    (λ c. level-in (c .before .before .before .args .w) (c .before .before .before .args .block .now) (c .before .before .before .pre))
+    (λ c. let s = c .before .before .before in level-in (s .args .w) (s .args .block .now) (s .pre))
     (λ c κs. search needs)
     (λ c κs. search needs)
-    (λ c κs. let h = c .before .before .before .header-length .ensures .0 in (delta-start (c .before .before .before .before .before .args .w) _ h, omega (arith, h, c .before .before .before .before .before .pre)))
+    (λ c κs.
+    let s = c .before .before .before .before .before in
+    let h = c .before .before .before .header-length .ensures .0 in
+    (delta-start (s .args .w) _ h, omega (arith, h, s .pre)))
     returns)

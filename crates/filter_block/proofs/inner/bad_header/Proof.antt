@@ -1,9 +1,6 @@
-use Rattle.filter_format.specs.Block.{headerLength, badHeader}
-use Rattle.filter_format.specs.declared.Filter.{Filter}
-use lib.ListN.{length}
-use Prim.Native.Nat.{_≤_}
-use mathlib.Core.Path.{sym, ap, _∙_, subst}
 use borrow.Author.Needs.{needs}
+use Rattle.filter_format.specs.Block.{badHeader}
+use Rattle.filter_block.proofs.Headers.{told-fits}
 use Rattle.filter_block.proofs.inner.bad_header.Statement.{statement}
 use Rattle.filter_block.proofs.inner.bad_header.Tie as tie
 
@@ -13,7 +10,7 @@ returns c = rw (c .enum-told .given .1)
 
 returns-2 : tie.Need-returns-2
 unfolding badHeader
-returns-2 c = c .bad-delta-header .ensures ∙ ap (λ (f : Filter). badHeader f (c .before .before .before .before .before .args .block .now)) (sym (c .before .before .filter .given .1))
+returns-2 c = rw (c .before .before .filter .given .1) (c .bad-delta-header .ensures)
 
 returns-3 : tie.Need-returns-3
 unfolding badHeader
@@ -33,7 +30,7 @@ bad-header-spec =
     (tie.spec
     (λ c. search needs)
     (λ c. search needs)
-    (λ c κs. let a = c .before .before .before .before in subst (λ (f : Filter). headerLength f ≤ length (a .args .block .now)) (c .before .filter .given .1) (a .pre))
+    (λ c κs. let s = c .before .before .before .before in told-fits (s .args .filter) _ (s .args .block .now) (c .before .filter .given .1) (s .pre))
     (λ c. search needs)
     (λ c. search needs)
     (λ c. search needs)

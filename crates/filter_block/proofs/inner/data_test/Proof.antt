@@ -1,24 +1,36 @@
-use Rattle.filter_block.proofs.Tests.{raw-data, follow-data, other-data}
-use Rattle.filter_block.proofs.Headers.{told, told-fits}
-use Rattle.filter_block.specs.Tests.{dataTest}
-use Rattle.filter_format.specs.Block.{headerLength}
-use Rattle.filter_format.specs.declared.Filter.{Filter}
-use mathlib.Core.Path.{sym, ap, _∙_}
+use Prim.Native.Nat.{_≤_}
+use mathlib.Core.Path.{_≡_, sym, ap, _∙_}
+use native.Mathlib.Omega.{arith}
 use borrow.Author.Needs.{needs}
+use lib.ListN.{length}
+use Rattle.answers.specs.declared.Answer.{Answer}
+use Rattle.filter_format.specs.declared.Filter.{Filter}
+use Rattle.filter_format.specs.Block.{Known, headerLength}
+use Rattle.filter_block.specs.Tests.{dataTest}
+use Rattle.filter_block.proofs.Headers.{told}
+use Rattle.filter_block.proofs.Tests.{raw-data, follow-data, other-data}
 use Rattle.filter_block.proofs.inner.data_test.Statement.{statement}
 use Rattle.filter_block.proofs.inner.data_test.Tie as tie
 
+-- the case g that the filter is
+known : (s : tie.Start) {g : Filter} → s .args .filter ≡ g → (Known g) × (headerLength g ≤ length (s .args .block .now))
+known s e = told (s .args .filter) _ (s .args .block .now) e (s .pre)
+
+tested : (s : tie.Start) {g : Filter} {r : Answer} → s .args .filter ≡ g → r ≡ dataTest g (s .args .room) (s .args .block .now)
+    → r ≡ dataTest (s .args .filter) (s .args .room) (s .args .block .now)
+tested s e h = h ∙ ap (λ (f : Filter). dataTest f (s .args .room) (s .args .block .now)) (sym e)
+
 sub-room-test : tie.Need-sub-room-test
 unfolding headerLength
-sub-room-test c = let a = c .before .before .before in told-fits _ _ (a .args .block .now) (c .enum-told .given .1) (a .pre)
+sub-room-test c = omega (arith, known (c .before .before .before) (c .enum-told .given .1) .1)
 
 narrow-test-requires : tie.Need-narrow-test-requires
 unfolding headerLength
-narrow-test-requires c κs = let a = c .before .before .before .before in let k = told (a .args .filter) _ (a .args .block .now) (c .before .filter2 .given .1) (a .pre) in (k .0 .0, k .1)
+narrow-test-requires c κs = let k = known (c .before .before .before .before) (c .before .filter2 .given .1) in (k .0 .0, k .1)
 
 sub-room-test-2 : tie.Need-sub-room-test-2
 unfolding headerLength
-sub-room-test-2 c = let a = c .before .before .before in told-fits _ _ (a .args .block .now) (c .enum-told2 .given .1) (a .pre)
+sub-room-test-2 c = omega (arith, known (c .before .before .before) (c .enum-told2 .given .1) .1)
 
 pub data-test-spec : {M : Type 1} → statement M
 data-test-spec =
@@ -28,15 +40,15 @@ data-test-spec =
     sub-room-test
     (λ c κs. search needs)
     (λ c. search needs)
-    (λ c κs. let a = c .before .before .before .before in told (a .args .filter) _ (a .args .block .now) (c .before .filter .given .1) (a .pre))
+    (λ c κs. known (c .before .before .before .before) (c .before .filter .given .1))
     (λ c. search needs)
     narrow-test-requires
     (λ c. search needs)
     sub-room-test-2
     (λ c κs. search needs)
     (λ c. search needs)
-    (λ c. let a = c .before .before .before .before in c .room-test .ensures ∙ raw-data (a .args .room) (a .args .block .now) ∙ ap (λ (f : Filter). dataTest f (a .args .room) (a .args .block .now)) (sym (c .before .enum-told .given .1)))
-    (λ c. let a = c .before .before .before .before .before in c .delta-test .ensures ∙ ap (λ (f : Filter). dataTest f (a .args .room) (a .args .block .now)) (sym (c .before .before .filter .given .1)))
-    (λ c. let a = c .before .before .before .before .before in c .narrow-test .ensures ∙ ap (λ (f : Filter). dataTest f (a .args .room) (a .args .block .now)) (sym (c .before .before .filter2 .given .1)))
-    (λ c. let a = c .before .before .before .before in c .room-test2 .ensures ∙ follow-data (a .args .room) (a .args .block .now) ∙ ap (λ (f : Filter). dataTest f (a .args .room) (a .args .block .now)) (sym (c .before .enum-told2 .given .1)))
-    (λ c. let a = c .before .before .before in other-data (a .args .room) (a .args .block .now) ∙ ap (λ (f : Filter). dataTest f (a .args .room) (a .args .block .now)) (sym (c .enum-told3 .given .1))))
+    (λ c. let s = c .before .before .before .before in tested s (c .before .enum-told .given .1) (c .room-test .ensures ∙ raw-data (s .args .room) (s .args .block .now)))
+    (λ c. tested (c .before .before .before .before .before) (c .before .before .filter .given .1) (c .delta-test .ensures))
+    (λ c. tested (c .before .before .before .before .before) (c .before .before .filter2 .given .1) (c .narrow-test .ensures))
+    (λ c. let s = c .before .before .before .before in tested s (c .before .enum-told2 .given .1) (c .room-test2 .ensures ∙ follow-data (s .args .room) (s .args .block .now)))
+    (λ c. let s = c .before .before .before in tested s (c .enum-told3 .given .1) (other-data (s .args .room) (s .args .block .now))))

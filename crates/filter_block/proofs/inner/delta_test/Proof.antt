@@ -1,14 +1,27 @@
-use Rattle.filter_block.proofs.Tests.{delta-broken, delta-whole}
-use lib.ListN.{length}
 use Prim.Native.Nat.{ℕ, _-_}
-use mathlib.Core.Path.{ap, _∙_}
+use mathlib.Core.Path.{_≡_, ap, _∙_}
 use borrow.Author.Needs.{needs}
+use lib.ListN.{length}
+use Rattle.filter_format.specs.declared.Filter.the-variants.{Delta}
+use Rattle.filter_format.specs.Block.{headerLength}
+use Rattle.filter_block.proofs.Tests.{delta-broken, delta-whole}
 use Rattle.filter_block.proofs.inner.delta_test.Statement.{statement}
 use Rattle.filter_block.proofs.inner.delta_test.Tie as tie
 
+-- the length of the data
+long : (c : tie.After-header-length) → let a = c .before .before .args in let b = a .block .now in length b - c .header-length .result ≡ length b - headerLength (Delta (a .w))
+long c = ap (λ (h : ℕ). length (c .before .before .args .block .now) - h) (c .header-length .ensures .0)
+
 pub delta-test-spec : {M : Type 1} → statement M
 delta-test-spec =
-    tie.close (tie.spec (λ c κs. search needs) (λ c. search needs) (λ c. search needs) (λ c. let a = c .before .before .before in delta-broken (a .args .room) (a .args .block .now) (a .args .w) _ (ap (λ (h : ℕ). length (a .args .block .now) - h) (c .before .header-length .ensures .0)) (c .if1 .taken)) (λ c κs. search needs) (λ c.
-    let a = c .before .before .before .before in
-    c .room-test .ensures
-    ∙ delta-whole (a .args .room) (a .args .block .now) (a .args .w) _ (ap (λ (h : ℕ). length (a .args .block .now) - h) (c .before .before .header-length .ensures .0)) (a .pre .0) (c .before .if1 .left)))
+    tie.close
+    (tie.spec
+    (λ c κs. search needs)
+    (λ c. search needs)
+    (λ c. search needs)
+    (λ c. let a = c .before .before .before .args in delta-broken (a .room) (a .block .now) (a .w) _ (long (c .before)) (c .if1 .taken))
+    (λ c κs. search needs)
+    (λ c.
+    let s = c .before .before .before .before in
+    let a = s .args in
+    c .room-test .ensures ∙ delta-whole (a .room) (a .block .now) (a .w) _ (long (c .before .before)) (s .pre .0) (c .before .if1 .left)))

@@ -1,7 +1,7 @@
-use Rattle.filter_format.specs.Block.{filterOf}
-use Rattle.filter_block.proofs.Headers.{first-none}
 use mathlib.Core.Path.{ap, _∙_}
 use borrow.Author.Needs.{needs}
+use Rattle.filter_format.specs.Block.{filterOf}
+use Rattle.filter_block.proofs.Headers.{first-none}
 use Rattle.filter_block.proofs.inner.filter_at.Statement.{statement}
 use Rattle.filter_block.proofs.inner.filter_at.Tie as tie
 

@@ -1,5 +1,5 @@
-use Rattle.filter_format.specs.Block.{filterOf}
 use Rattle.answers.proofs.Answers.{tests}
+use Rattle.filter_format.specs.Block.{filterOf}
 use Rattle.filter_block.proofs.inner.filter_of.Statement.{statement}
 use Rattle.filter_block.proofs.inner.filter_of.Tie as tie
 

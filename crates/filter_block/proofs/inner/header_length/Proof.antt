@@ -1,8 +1,8 @@
-use native.Mathlib.Omega.{arith}
 use mathlib.Core.Path.{refl}
-use Rattle.filter_format.specs.Block.{headerLength}
+use native.Mathlib.Omega.{arith}
 use borrow.Author.Tests.{eq-eqb, ne-eqb}
 use borrow.Author.Needs.{needs}
+use Rattle.filter_format.specs.Block.{headerLength}
 use Rattle.filter_block.proofs.inner.header_length.Statement.{statement}
 use Rattle.filter_block.proofs.inner.header_length.Tie as tie
 

@@ -1,27 +1,41 @@
-use Rattle.filter_block.proofs.Opening.{opens, put-of, put-other}
+use Prim.Native.Nat.{ℕ}
+use mathlib.Core.Path.{_≡_}
+use mathlib.Core.List.{List}
 use borrow.Author.Needs.{needs}
+use lib.ListN.{length}
+use Rattle.filter_format.specs.declared.Filter.{Filter}
+use Rattle.filter_block.specs.Tests.{Opens}
+use Rattle.filter_block.proofs.Opening.{Put, opens, put-of, put-other}
 use Rattle.filter_block.proofs.inner.undo_filter.Statement.{statement}
 use Rattle.filter_block.proofs.inner.undo_filter.Tie as tie
+
+-- the case g that the filter is
+opened : (s : tie.Start) {g : Filter} → s .args .filter ≡ g → Opens g (s .args .block .now) (length (s .args .out .now))
+opened s e = opens (s .args .filter) _ (s .args .block .now) (length (s .args .out .now)) e (s .pre)
+
+put : (s : tie.Start) {g : Filter} {r : ℕ} {out' : List ℕ} → s .args .filter ≡ g → Put g (s .args .block .now) r (s .args .out .now) out'
+    → Put (s .args .filter) (s .args .block .now) r (s .args .out .now) out'
+put s e p = put-of (s .args .filter) _ (s .args .block .now) _ (s .args .out .now) _ e p
 
 pub undo-filter-spec : {M : Type 1} → statement M
 undo-filter-spec =
     tie.close
     (tie.spec
     (λ c. search needs)
-    (λ c κs. let a = c .before .before .before .before .before in opens (a .args .filter) _ (a .args .block .now) _ (c .before .enum-told .given .1) (a .pre))
+    (λ c κs. opened (c .before .before .before .before .before) (c .before .enum-told .given .1))
     (λ c. search needs)
-    (λ c κs. let a = c .before .before .before .before .before .before in opens (a .args .filter) _ (a .args .block .now) _ (c .before .before .filter .given .1) (a .pre))
+    (λ c κs. opened (c .before .before .before .before .before .before) (c .before .before .filter .given .1))
     (λ c. search needs)
-    (λ c κs. let a = c .before .before .before .before .before .before in opens (a .args .filter) _ (a .args .block .now) _ (c .before .before .filter2 .given .1) (a .pre))
+    (λ c κs. opened (c .before .before .before .before .before .before) (c .before .before .filter2 .given .1))
     (λ c. search needs)
-    (λ c κs. let a = c .before .before .before .before .before in opens (a .args .filter) _ (a .args .block .now) _ (c .before .enum-told2 .given .1) (a .pre))
+    (λ c κs. opened (c .before .before .before .before .before) (c .before .enum-told2 .given .1))
     (λ c. search needs)
     (λ c. search needs)
-    (λ c. let a = c .before .before .before .before .before .before .before .before in let k = c .before .before .undo-raw in put-of (a .args .filter) _ (a .args .block .now) (k .result) (a .args .out .now) (k .last .0) (c .before .before .before .before .enum-told .given .1) (k .ensures))
+    (λ c. let k = c .before .before in put (k .before .before .before .before .before .before) (k .before .before .enum-told .given .1) (k .undo-raw .ensures))
     (λ c. search needs)
-    (λ c. let a = c .before .before .before .before .before .before .before .before .before in let k = c .before .before .undo-delta in put-of (a .args .filter) _ (a .args .block .now) (k .result) (a .args .out .now) (k .last .0) (c .before .before .before .before .before .filter .given .1) (k .ensures))
+    (λ c. let k = c .before .before in put (k .before .before .before .before .before .before .before) (k .before .before .before .filter .given .1) (k .undo-delta .ensures))
     (λ c. search needs)
-    (λ c. let a = c .before .before .before .before .before .before .before .before .before in let k = c .before .before .undo-narrow in put-of (a .args .filter) _ (a .args .block .now) (k .result) (a .args .out .now) (k .last .0) (c .before .before .before .before .before .filter2 .given .1) (k .ensures))
+    (λ c. let k = c .before .before in put (k .before .before .before .before .before .before .before) (k .before .before .before .filter2 .given .1) (k .undo-narrow .ensures))
     (λ c. search needs)
-    (λ c. let a = c .before .before .before .before .before .before .before .before in let k = c .before .before .undo-follow in put-of (a .args .filter) _ (a .args .block .now) (k .result) (a .args .out .now) (k .last .0) (c .before .before .before .before .enum-told2 .given .1) (k .ensures))
-    (λ c. let a = c .before .before .before .before in put-other (a .args .filter) (a .args .block .now) (a .args .out .now) (c .enum-told3 .given .1)))
+    (λ c. let k = c .before .before in put (k .before .before .before .before .before .before) (k .before .before .enum-told2 .given .1) (k .undo-follow .ensures))
+    (λ c. let a = c .before .before .before .before .args in put-other (a .filter) (a .block .now) (a .out .now) (c .enum-told3 .given .1)))

@@ -1,16 +1,16 @@
+use borrow.Author.Needs.{needs}
 use Rattle.filter_format.specs.Block.{headerLength}
 use Rattle.filter_block.proofs.Opening.{narrow-given, narrow-put}
-use borrow.Author.Needs.{needs}
 use Rattle.filter_block.proofs.inner.undo_narrow.Statement.{statement}
 use Rattle.filter_block.proofs.inner.undo_narrow.Tie as tie
 
 sub-put-widened : tie.Need-sub-put-widened
 unfolding headerLength
-sub-put-widened c = let a = c .before .before .before in a .pre .1
+sub-put-widened c = c .before .before .before .pre .1
 
 part-put-widened-start : tie.Need-part-put-widened-start
 unfolding headerLength
-part-put-widened-start c = let a = c .before .before .before in a .pre .1
+part-put-widened-start c = c .before .before .before .pre .1
 
 pub undo-narrow-spec : {M : Type 1} → statement M
 undo-narrow-spec =
@@ -19,6 +19,9 @@ undo-narrow-spec =
     sub-put-widened
     part-put-widened-start
     (λ c. search needs)
-    (λ c κs. let a = c .before .before .before .before in narrow-given (a .args .block .now) (a .args .out .now) (a .args .w) (a .pre))
+    (λ c κs. let s = c .before .before .before .before in narrow-given (s .args .block .now) (s .args .out .now) (s .args .w) (s .pre))
     (λ c. search needs)
-    (λ c. let a = c .before .before .before .before .before .before .before in let k = c .before .before .put-widened in narrow-put (a .args .block .now) (a .args .out .now) (a .args .w) (a .pre) (k .result) (k .last .0) (k .ensures .0) (k .ensures .1)))
+    (λ c.
+    let s = c .before .before .before .before .before .before .before in
+    let k = c .before .before .put-widened in
+    narrow-put (s .args .block .now) (s .args .out .now) (s .args .w) (s .pre) (k .result) (k .last .0) (k .ensures .0) (k .ensures .1)))

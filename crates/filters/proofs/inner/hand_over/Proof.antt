@@ -1,5 +1,5 @@
-use Rattle.filters.proofs.Buffers.{made-part, counted-part}
 use borrow.Author.Needs.{needs}
+use Rattle.filters.proofs.Buffers.{holds-part, placed}
 use Rattle.filters.proofs.inner.hand_over.Statement.{statement}
 use Rattle.filters.proofs.inner.hand_over.Tie as tie
 
@@ -13,5 +13,8 @@ hand-over-spec =
     (λ c. search needs)
     (λ c. search needs)
     (λ c.
-    let a = c .before .before .before .before .before .before .before .before .before .before .before .before .before .before .before in made-part (a .args .here .now) (a .args .there .now) (c .before .before .before .before .before .before .before .before .before .before .copy .last .0) (c .before .before .before .before .before .before .clear-behind .last .0) (a .args .here .now) (c .before .before .clear-behind2 .last .0) (a .args .n) _
-    (a .pre .0) (a .pre .1) (c .before .before .before .before .before .before .before .before .before .before .copy .ensures) (c .before .before .before .before .before .before .clear-behind .ensures) (c .before .before .clear-behind2 .ensures) (counted-part (a .args .here .now) (a .args .n) (a .pre .0))))
+    let z = c .before .before in
+    let m = z .before .before .before .before .before .before .before .before in
+    let a = m .before .before .before .before .before in
+    let held = holds-part (a .args .here .now) (a .pre .0) (a .pre .1) (m .copy .ensures) in
+    placed held (a .args .here .now) (z .before .before .before .before .clear-behind .ensures) (z .clear-behind2 .ensures)))

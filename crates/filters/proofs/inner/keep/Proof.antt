@@ -1,6 +1,6 @@
-use Rattle.filters.proofs.Buffers.{made-part, counted-part}
 use native.Mathlib.Omega.{arith}
 use borrow.Author.Needs.{needs}
+use Rattle.filters.proofs.Buffers.{holds-part, placed}
 use Rattle.filters.proofs.inner.keep.Statement.{statement}
 use Rattle.filters.proofs.inner.keep.Tie as tie
 
@@ -14,5 +14,8 @@ keep-spec =
     (λ c. search needs)
     (λ c. search needs)
     (λ c.
-    let a = c .before .before .before .before .before .before .before .before .before .before .before .before .before .before in made-part (a .args .here .now) (a .args .here .now) (c .before .before .before .before .before .before .before .before .before .before .move-down .last .0) (c .before .before .before .before .before .before .clear-behind .last .0) (a .args .there .now) (c .before .before .clear-behind2 .last .0) (a .args .n) _
-    (a .pre) (omega arith) (c .before .before .before .before .before .before .before .before .before .before .move-down .ensures) (c .before .before .before .before .before .before .clear-behind .ensures) (c .before .before .clear-behind2 .ensures) (counted-part (a .args .here .now) (a .args .n) (a .pre))))
+    let z = c .before .before in
+    let m = z .before .before .before .before .before .before .before .before in
+    let a = m .before .before .before .before in
+    let held = holds-part (a .args .here .now) (a .pre) (omega arith) (m .move-down .ensures) in
+    placed held (a .args .there .now) (z .before .before .before .before .clear-behind .ensures) (z .clear-behind2 .ensures)))

@@ -51,6 +51,7 @@ use Rattle.filter_format.specs.Undo.{making, refusing, undo, undoLayer, undoFro
 use Rattle.filter_format.specs.Encode.{encode, SameFor}
 use Rattle.filter_format.specs.Samples.{encodeSamples, undoSamples}
 use Rattle.filter_format.proofs.Layers.{undo-after-encode, chain-after-encode, ninth-after-encode, encode-after-undo}
+use Rattle.filter_format.proofs.Eight.{under, eight-at-most}
 use Rattle.filter_format.proofs.Sampled.{undo-after-encode-samples, encode-after-undo-samples}
 use Rattle.filter_format.proofs.Refusals.{undo-zero, layer-zero, encode-zero, encode-samples-zero, undo-samples-zero}
 use Rattle.sff_correction.proofs.RecordsLaid.{record-exactly}
@@ -277,6 +278,10 @@ module _ (room room' format level : ℕ) (follow s : List ℕ) (y : Bytes s) (z 
 
   pub ninth-filter : undoFrom 0 room' (encode room format level follow s .bytes) ≡ refusing (Refused 44 0)
   ninth-filter = ninth-after-encode room room' format level follow s y z (encode-zero room format level follow s carried) fits
+
+-- so eight filters are undone, and the ninth is refused
+pub eight-filters : (undo 32 (under 8 (0 ∷ 7 ∷ [])) ≡ making (7 ∷ [])) × (undo 32 (under 9 (0 ∷ 7 ∷ [])) ≡ refusing (Refused 44 0))
+eight-filters = eight-at-most
 
 -- "Encode after undo returns the block for 64, 65, 66, 72 (same level and follow bytes)"
 pub encoding-undoes-filter : (room room' level : ℕ) (follow b : List ℕ) → Bytes b → numberOf (undoLayer room b .answer) ≡ 0 → SameFor (filterAt b) b level follow → length b ≤ room'

@@ -8,3 +8,4 @@ pub mod Layers
 pub mod Results
 pub mod Sampled
 pub mod Refusals
+pub mod Eight

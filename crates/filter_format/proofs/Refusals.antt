@@ -10,7 +10,7 @@ use Rattle.answers.specs.Answer.{numberOf, when, _then_, acceptedOr}
 use Rattle.answers.proofs.Numbered.{Numbered, zero-accepted, then-numbered, when-numbered}
 use Rattle.filter_format.specs.declared.Filter.{Filter}
 use Rattle.filter_format.specs.Block.{filterAt, isRaw, undone, contentsTest}
-use Rattle.filter_format.specs.Undo.{Result, making, refusing, tested, blockTest, layerTest, undoFrom, undo, undoLayer}
+use Rattle.filter_format.specs.Undo.{Result, making, refusing, tested, blockTest, layerTest, undoFrom, mostFilters, undo, undoLayer}
 use Rattle.filter_format.specs.Encode.{encodeTest, encode}
 use Rattle.filter_format.specs.Samples.{samplesTest, encodeSamples, undoSamples}
 
@@ -63,7 +63,7 @@ undo-numbered (suc left) room b =
 
 -- the number 0 is that of acceptance alone
 pub undo-zero : (room : ℕ) (b : List ℕ) → numberOf (undo room b .answer) ≡ 0 → undo room b .answer ≡ Accepted
-undo-zero room b e = zero-accepted (undo room b .answer) (undo-numbered 8 room b) e
+undo-zero room b e = zero-accepted (undo room b .answer) (undo-numbered mostFilters room b) e
 
 pub layer-zero : (room : ℕ) (b : List ℕ) → numberOf (undoLayer room b .answer) ≡ 0 → undoLayer room b .answer ≡ Accepted
 unfolding undoLayer

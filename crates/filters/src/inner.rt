@@ -71,11 +71,11 @@ pub fn clear_behind(s: &mut [u8], n: usize)
 }
 
 // A refusal zeroes both buffers.
-pub fn refuse(here: &mut [u8], there: &mut [u8], number: u8, place: usize) -> Filtered
-    ensures { λ r. ⌜ (r ≡ filtered (refusing (Refused number place))) × (now (here .exit) ≡ secondAfter (now (here .entry))) × (now (there .exit) ≡ secondAfter (now (there .entry))) ⌝ }
+pub fn refuse(first: &mut [u8], second: &mut [u8], number: u8, place: usize) -> Filtered
+    ensures { λ r. ⌜ (r ≡ filtered (refusing (Refused number place))) × (now (first .exit) ≡ secondAfter (now (first .entry))) × (now (second .exit) ≡ secondAfter (now (second .entry))) ⌝ }
 {
-    clear_behind(here, 0);
-    clear_behind(there, 0);
+    clear_behind(first, 0);
+    clear_behind(second, 0);
     Filtered {
         answer: Answer::Refused(number, place),
         made: 0,

@@ -25,26 +25,22 @@ const UNSET: u64 = 0xA5C3_96E1_5A3C_691E;
 /// Number, and bytes made.
 pub type Answer = (u64, u64);
 
+/// Both calls that undo take a block and two buffers.
+type Undo =
+    unsafe extern "C" fn(*const u8, usize, *mut u8, usize, *mut u8, usize, *mut u64) -> u64;
+
 pub fn undo(block: &Lent<u8>, first: &mut Lent<u8>, second: &mut Lent<u8>) -> Answer {
-    let mut made = UNSET;
-    let number = unsafe {
-        h_undo(
-            block.pointer(),
-            block.len(),
-            first.pointer_to_write(),
-            first.len(),
-            second.pointer_to_write(),
-            second.len(),
-            &mut made,
-        )
-    };
-    (number, made)
+    undo_by(h_undo, block, first, second)
 }
 
 pub fn undo_layer(block: &Lent<u8>, first: &mut Lent<u8>, second: &mut Lent<u8>) -> Answer {
+    undo_by(h_undo_layer, block, first, second)
+}
+
+fn undo_by(call: Undo, block: &Lent<u8>, first: &mut Lent<u8>, second: &mut Lent<u8>) -> Answer {
     let mut made = UNSET;
     let number = unsafe {
-        h_undo_layer(
+        call(
             block.pointer(),
             block.len(),
             first.pointer_to_write(),

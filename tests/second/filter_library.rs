@@ -14,6 +14,7 @@ mod filter_inputs;
 mod filters;
 mod inputs;
 mod lent;
+mod running;
 mod sff;
 
 use comparing::{holds, same, unchanged, Choices, Difference, Outcome};
@@ -22,40 +23,16 @@ use filter_exports::Answer;
 use filter_inputs::{header_length, EncodeCall, ScfCall, UndoCall};
 use filters::{numbers, Made};
 use lent::Lent;
-use std::process::exit;
 
 fn main() {
-    let arguments: Vec<String> = std::env::args().skip(1).collect();
-    let numbers: Option<Vec<u64>> = arguments.iter().map(|word| word.parse().ok()).collect();
-    let done = match numbers.as_deref() {
-        Some([seed, count]) => compare(*seed, *count, 0),
-        Some([seed, count, first]) => compare(*seed, *count, *first),
-        _ => Err("usage: second-filters SEED COUNT [FIRST]".to_string()),
-    };
-    if let Err(message) = done {
-        eprintln!("{message}");
-        exit(1);
-    }
+    running::run("second-filters", compare);
 }
 
 fn compare(seed: u64, count: u64, first: u64) -> Result<(), String> {
     marked().map_err(|difference| difference.message)?;
     let mut comparison = Comparison::new();
-    for number in first..first + count {
-        comparison
-            .case(seed, number)
-            .map_err(|difference| difference.told(seed, number))?;
-    }
-    let mut missing = Vec::new();
-    for (call, counts) in comparison.all() {
-        println!("{call}: {} alike; {}", counts.all(), counts.line());
-        let never = counts.below(1);
-        missing.extend(never.iter().map(|answer| format!("{call} {answer}")));
-    }
-    if !missing.is_empty() {
-        return Err(format!("never occurred: {}", missing.join(", ")));
-    }
-    Ok(())
+    running::cases(seed, count, first, |seed, number| comparison.case(seed, number))?;
+    running::occurred(&comparison.all())
 }
 
 /// Document 01's marked cases, each encoded and undone: format, level, data, block.

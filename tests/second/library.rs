@@ -17,6 +17,7 @@ mod inputs;
 mod lent;
 mod library_corrections;
 mod reading;
+mod running;
 mod sff;
 mod writing;
 
@@ -26,21 +27,10 @@ use exports::{Inserted, LentRead, Made, State, Stepped, Summed};
 use lent::Lent;
 use library_corrections::Corrections;
 use sff::{numbers, Reader};
-use std::process::exit;
 use writing::NewRead;
 
 fn main() {
-    let arguments: Vec<String> = std::env::args().skip(1).collect();
-    let numbers: Option<Vec<u64>> = arguments.iter().map(|word| word.parse().ok()).collect();
-    let done = match numbers.as_deref() {
-        Some([seed, count]) => compare(*seed, *count, 0),
-        Some([seed, count, first]) => compare(*seed, *count, *first),
-        _ => Err("usage: second-library SEED COUNT [FIRST]".to_string()),
-    };
-    if let Err(message) = done {
-        eprintln!("{message}");
-        exit(1);
-    }
+    running::run("second-library", compare);
 }
 
 fn compare(seed: u64, count: u64, first: u64) -> Result<(), String> {
@@ -48,21 +38,8 @@ fn compare(seed: u64, count: u64, first: u64) -> Result<(), String> {
     many_bases().map_err(|difference| difference.message)?;
     library_corrections::file_e().map_err(|difference| difference.message)?;
     let mut comparison = Comparison::new();
-    for number in first..first + count {
-        comparison
-            .case(seed, number)
-            .map_err(|difference| difference.told(seed, number))?;
-    }
-    let mut missing = Vec::new();
-    for (call, counts) in comparison.all() {
-        println!("{call}: {} alike; {}", counts.all(), counts.line());
-        let never = counts.below(1);
-        missing.extend(never.iter().map(|answer| format!("{call} {answer}")));
-    }
-    if !missing.is_empty() {
-        return Err(format!("never occurred: {}", missing.join(", ")));
-    }
-    Ok(())
+    running::cases(seed, count, first, |seed, number| comparison.case(seed, number))?;
+    running::occurred(&comparison.all())
 }
 
 /// Document 01: "insert 2 to 3, CC. Mean signal 0.75 (run)."

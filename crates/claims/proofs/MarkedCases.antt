@@ -1,7 +1,7 @@
 -- Every row of the table of marked cases holds, computed from the definitions. Assumes nothing.
 use mathlib.Core.Path.{refl}
 use Rattle.octets.specs.Parts.{wholePart, putAt, filled, insertAt, settled, same}
-use Rattle.octets.specs.Numbers.{bigEndianFrom, number, bytesOf, fields, words, wordsAt, unitBytes, unitsAt}
+use Rattle.octets.specs.Numbers.{bigEndianFrom, number, bytesOf, fields, unitBytes, unitsAt}
 use Rattle.octets.specs.Scans.{run, firstNot}
 use Rattle.answers.specs.Answer.{when, shifted, _then_, acceptedOr}
 use Rattle.sff_format.specs.Rules.{declared, badIndexLength, badIndex, indexSize, leftLimit, rightLimit, isFlow, walkRun, isCall, callRun}

@@ -1,24 +1,20 @@
 -- What a format says, what the tests of a block's contents tell, and how long its undoing is. Assumes nothing.
-use mathlib.Core.Path.{_≡_, refl, sym, ap, _∙_, subst}
-use mathlib.Core.Bool.{Bool, true, false, cond, not, _&&_, _||_}
+use mathlib.Core.Path.{_≡_, refl, ap}
+use mathlib.Core.Bool.{Bool, true, false, cond}
 use mathlib.Core.List.{List, [], _∷_}
-use mathlib.Core.Logic.{_≢_}
-use Prim.Native.Nat.{ℕ, zero, suc, _+_, _-_, _*_, _%_, _<_, _≤_}
+use Prim.Native.Nat.{ℕ, suc, _*_, _%_, _<_, _≤_}
 use native.Mathlib.Omega.{arith}
 use borrow.Author.Tests.{eqb-true, ltb-false, not-false}
-use lib.Dec.{eqb, ltb}
-use lib.ListN.{length, drop, getD}
-use Rattle.answers.specs.declared.Answer.{Answer}
-use Rattle.answers.specs.declared.Answer.the-variants.{Accepted, Refused}
-use Rattle.answers.specs.Answer.{when, _then_}
+use lib.Dec.{eqb}
+use lib.ListN.{length}
+use Rattle.answers.specs.declared.Answer.the-variants.{Accepted}
 use Rattle.answers.proofs.Answers.{first-ok, second-ok, when-ok, under-ok}
 use Rattle.filter_format.specs.declared.Filter.{Filter}
 use Rattle.filter_format.specs.declared.Filter.the-variants.{Raw, Delta, Narrow, Follow, Other}
 use Rattle.filter_format.specs.Units.{IsWidth}
-use Rattle.filter_format.specs.Delta.{scan, undeltaBytes}
-use Rattle.filter_format.specs.Narrow.{widen, lacking, begun}
-use Rattle.filter_format.specs.Follow.{predicted, followed, unfollowed}
-use Rattle.filter_format.specs.Block.{filterOf, Known, filterAt, headerLength, levelAt, followAt, dataAt, badHeader, badData, decoded, undone, contentsTest}
+use Rattle.filter_format.specs.Narrow.{lacking, begun}
+use Rattle.filter_format.specs.Follow.{predicted, unfollowed}
+use Rattle.filter_format.specs.Block.{filterOf, Known, headerLength, dataAt, badHeader, badData, decoded, undone, contentsTest}
 use Rattle.filter_format.proofs.Scans.{length-scan}
 use Rattle.filter_format.proofs.Levels.{length-undelta}
 use Rattle.filter_format.proofs.Narrowing.{length-widen}

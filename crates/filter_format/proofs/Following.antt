@@ -1,14 +1,12 @@
 -- Format 72: the way there and back, and a turn of the loop. Assumes nothing.
-use mathlib.Core.Path.{_≡_, refl, sym, ap, _∙_}
-use mathlib.Core.List.{List, [], _∷_, _++_, append-nil, append-assoc}
-use Prim.Native.Nat.{ℕ, zero, suc, _+_, _-_, _%_, _<_, _≤_}
+use mathlib.Core.Path.{_≡_, refl, ap}
+use mathlib.Core.List.{List, [], _∷_}
+use Prim.Native.Nat.{ℕ, _+_, _-_, _<_}
 use native.Mathlib.Nat.{mod-lt}
-use native.Mathlib.Numerals.{add-one}
 use native.Mathlib.Omega.{arith}
-use lib.ListN.{length, getD, take, drop, set, drop-of-length-le}
-use lib.Seq.{drop-cons, take-suc-set, drop-set-lt, append-snoc, take-all}
+use lib.ListN.{getD}
 use Rattle.octets.specs.Numbers.{Below}
-use Rattle.filter_format.specs.Delta.{scan, latest}
+use Rattle.filter_format.specs.Delta.{latest}
 use Rattle.filter_format.specs.Follow.{predicted, followed, unfollowed}
 use Rattle.filter_format.proofs.Scans.{there-and-back}
 

@@ -1,14 +1,13 @@
 -- "Undo after encode returns the data"; "Encode after undo returns the block for 64, 65, 66, 72 (same level and follow bytes)". Assumes nothing.
 use mathlib.Core.Path.{_≡_, refl, sym, ap, _∙_, subst}
-use mathlib.Core.Bool.{Bool, true, false, cond, not, _&&_, _||_}
+use mathlib.Core.Bool.{Bool, true, false, cond, not, _||_}
 use mathlib.Core.List.{List, [], _∷_, _++_}
-use Prim.Native.Nat.{ℕ, zero, suc, _+_, _-_, _*_, _%_, _<_, _≤_}
-use native.Mathlib.Nat.{add-comm}
+use Prim.Native.Nat.{ℕ, zero, suc, _+_, _-_, _%_, _<_, _≤_}
 use native.Mathlib.Omega.{arith}
-use borrow.Author.Tests.{eqb-true, ne-eqb, ltb-false, le-ltb, not-false}
+use borrow.Author.Tests.{eqb-true, ne-eqb, ltb-false, not-false}
 use lib.Dec.{eqb, ltb}
 use lib.ListN.{length, take, drop, getD, replicate, length-append, take-append-drop}
-use lib.Seq.{take-at, drop-at, length-take-le}
+use lib.Seq.{take-at, drop-at}
 use Rattle.octets.specs.Parts.{part}
 use Rattle.octets.specs.Numbers.{Bytes}
 use Rattle.octets.specs.Scans.{run, oneMore, firstNot, isZero}
@@ -17,12 +16,11 @@ use Rattle.octets.proofs.AllBytes.{bytes-part, bytes-drop}
 use Rattle.answers.specs.declared.Answer.{Answer}
 use Rattle.answers.specs.declared.Answer.the-variants.{Accepted, Refused}
 use Rattle.answers.specs.Answer.{when, _then_, acceptedOr}
-use Rattle.answers.proofs.Answers.{first-ok, second-ok, both-ok, when-ok, ok-when, under-ok, ok-under, not-accepted}
+use Rattle.answers.proofs.Answers.{first-ok, second-ok, both-ok, when-ok, ok-when, ok-under}
 use Rattle.filter_format.specs.declared.Filter.{Filter}
 use Rattle.filter_format.specs.declared.Filter.the-variants.{Raw, Delta, Narrow, Follow, Other}
 use Rattle.filter_format.specs.Units.{IsWidth, unitsOf, notWhole}
 use Rattle.filter_format.specs.Delta.{deltaBytes, undeltaBytes}
-use Rattle.filter_format.specs.Narrow.{narrow, widen, lacking}
 use Rattle.filter_format.specs.Follow.{followed, unfollowed}
 use Rattle.filter_format.specs.Block.{filterOf, Known, filterAt, isRaw, isFilter, headerLength, levelAt, followAt, dataAt, badLevel, badHeader, badData, decoded, undone, contentsTest}
 use Rattle.filter_format.specs.Undo.{Result, making, refusing, tested, layerTest, undoLayer, blockTest, undoFrom}

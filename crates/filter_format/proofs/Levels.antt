@@ -1,10 +1,9 @@
 -- Levels of the delta filter on data in units of w bytes: one pass, the loop over the levels, the way there and back. Assumes nothing.
-use mathlib.Core.Path.{_≡_, refl, sym, ap, _∙_}
+use mathlib.Core.Path.{_≡_, refl, ap, _∙_}
 use mathlib.Core.List.{List}
-use Prim.Native.Nat.{ℕ, zero, suc, _*_, _/_, _-_, _%_, _<_, _≤_}
-use native.Mathlib.Omega.{arith}
+use Prim.Native.Nat.{ℕ, zero, suc, _*_, _/_, _%_, _<_}
 use lib.ListN.{length}
-use Rattle.octets.specs.Numbers.{Below, Bytes, unitBytes}
+use Rattle.octets.specs.Numbers.{Bytes, unitBytes}
 use Rattle.octets.proofs.Stands.{length-units, length-unitsAt}
 use Rattle.filter_format.specs.Units.{range, unitsOf}
 use Rattle.filter_format.specs.Delta.{delta, undelta, deltas, undeltas, deltaBytes, undeltaBytes, OneLevelLess}

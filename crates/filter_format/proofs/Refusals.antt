@@ -3,10 +3,9 @@ use Prim.Native.Nat.{ℕ, zero, suc}
 use mathlib.Core.Path.{_≡_, refl}
 use mathlib.Core.Bool.{Bool, true, false, cond}
 use mathlib.Core.List.{List}
-use lib.ListN.{length}
 use Rattle.answers.specs.declared.Answer.{Answer}
 use Rattle.answers.specs.declared.Answer.the-variants.{Accepted, Refused}
-use Rattle.answers.specs.Answer.{numberOf, when, _then_, acceptedOr}
+use Rattle.answers.specs.Answer.{numberOf, acceptedOr}
 use Rattle.answers.proofs.Numbered.{Numbered, zero-accepted, then-numbered, when-numbered}
 use Rattle.filter_format.specs.declared.Filter.{Filter}
 use Rattle.filter_format.specs.Block.{filterAt, isRaw, undone, contentsTest}

@@ -1,7 +1,7 @@
 -- Data in whole units are the bytes of their units, and back. Assumes nothing.
-use mathlib.Core.Path.{_≡_, refl, sym, ap, _∙_}
+use mathlib.Core.Path.{_≡_, sym, ap, _∙_}
 use mathlib.Core.List.{List}
-use Prim.Native.Nat.{ℕ, zero, _+_, _*_, _/_, _%_, _^_, _<_, _≤_}
+use Prim.Native.Nat.{ℕ, zero, _*_, _/_, _%_, _<_}
 use native.Mathlib.Nat.{one-le-pow, div-add-mod, mul-div-right, mul-mod-right}
 use native.Mathlib.Omega.{arith}
 use lib.ListN.{length, take}

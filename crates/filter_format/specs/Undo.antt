@@ -1,15 +1,13 @@
 -- Undoing: one layer alone, and layer after layer until format 0. Assumes nothing: these are definitions.
 use Prim.Native.Nat.{ℕ, zero, suc, min}
-use mathlib.Core.Bool.{Bool, true, false, cond, not, _&&_}
-use mathlib.Core.List.{List, [], _∷_}
-use lib.ListN.{length, getD}
+use mathlib.Core.Bool.{cond, not, _&&_}
+use mathlib.Core.List.{List, []}
+use lib.ListN.{length}
 use lib.Dec.{eqb}
 use Rattle.octets.specs.Parts.{filled}
 use Rattle.answers.specs.declared.Answer.{Answer}
 use Rattle.answers.specs.declared.Answer.the-variants.{Accepted}
 use Rattle.answers.specs.Answer.{when, _then_, acceptedOr}
-use Rattle.filter_format.specs.declared.Filter.{Filter}
-use Rattle.filter_format.specs.declared.Filter.the-variants.{Other}
 use Rattle.filter_format.specs.declared.Filtered.{Filtered}
 use Rattle.filter_format.specs.Block.{filterAt, isRaw, isFilter, contentsTest, undone}
 

@@ -8,7 +8,7 @@ use native.Mathlib.Omega.{arith}
 use lib.ListN.{length, take, drop, length-append, length-take, length-drop}
 use lib.Seq.{length-take-le, take-at, drop-at}
 use Rattle.octets.specs.Parts.{part, putAt, filled, settled, spliced, up8}
-use Rattle.octets.specs.Numbers.{Bytes, number, bytesOf, fields, words, wordsAt, unitBytes, unitsAt}
+use Rattle.octets.specs.Numbers.{Bytes, bytesOf, fields, words, wordsAt, unitBytes, unitsAt}
 use Rattle.octets.proofs.Lists.{length-put, put-over, length-part}
 use Rattle.octets.proofs.Digits.{length-bytesOf}
 use Rattle.octets.proofs.Stands.{stands-read, units-stand, length-units, length-fields, length-filled, field-filled, number-take}

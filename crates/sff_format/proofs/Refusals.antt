@@ -3,12 +3,11 @@ use Prim.Native.Nat.{ℕ, zero, suc}
 use mathlib.Core.Path.{_≡_, refl}
 use mathlib.Core.Bool.{Bool, true, false, cond}
 use mathlib.Core.List.{List, [], _∷_}
-use native.Mathlib.Omega.{arith}
 use lib.ListN.{length, take}
 use lib.Dec.{ltb}
 use Rattle.answers.specs.declared.Answer.{Answer}
 use Rattle.answers.specs.declared.Answer.the-variants.{Accepted, Refused}
-use Rattle.answers.specs.Answer.{numberOf, when, shifted, own, _then_, acceptedOr}
+use Rattle.answers.specs.Answer.{numberOf, _then_, acceptedOr}
 use Rattle.answers.proofs.Numbered.{Numbered, zero-accepted, then-numbered, when-numbered, shifted-numbered, own-numbered}
 use Rattle.sff_format.specs.HeaderTest.{fixedTest, charactersTest, headerTest, readCount, headerLength, flowCharacters}
 use Rattle.sff_format.specs.ReadTest.{nameTest, clipTest, basesTest, dataTest, readTest}

@@ -42,10 +42,14 @@ module _ {n : ℕ} {xs s s₁ : List ℕ} (m : Holds n xs s s₁) where
   pub held-front : take n s₁ ≡ xs
   held-front = ap (λ (k : ℕ). take k s₁) (m .count) ∙ ap (take (length xs)) (m .is) ∙ take-front xs s
 
-  -- then zeros behind it, and the other buffer zeroed: a call that makes xs
+  -- then zeros behind it
+  pub held-filled : {s₂ : List ℕ} → s₂ ≡ filled (length s₁) (take n s₁) → s₂ ≡ filled (length s) xs
+  held-filled e = e ∙ rw (held-length, held-front)
+
+  -- and the other buffer zeroed: a call that makes xs
   pub placed : {s₂ t' : List ℕ} (t : List ℕ) → s₂ ≡ filled (length s₁) (take n s₁) → t' ≡ secondAfter t
       → Undid (making xs) true s s₂ t t' (record { answer = Accepted; made = n })
-  placed t e g = (rw (m .count), e ∙ rw (held-length, held-front), g)
+  placed t e g = (rw (m .count), held-filled e, g)
 
 -- the same of another list of the same length
 pub as-long : (result : Result) (first : Bool) {here' there' : List ℕ} {r : Filtered} (here₁ here there : List ℕ) → length here₁ ≡ length here

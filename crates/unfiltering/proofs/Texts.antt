@@ -10,7 +10,7 @@ use Rattle.octets.specs.Parts.{filled}
 use Rattle.answers.specs.declared.Answer.the-variants.{Accepted, Refused}
 use Rattle.filter_format.specs.declared.Filtered.{Filtered}
 use Rattle.filter_format.specs.Undo.{Result, filtered, roomOf, firstAfter, secondAfter, undo}
-use Rattle.filters.proofs.Buffers.{made}
+use Rattle.filters.proofs.Buffers.{held-filled}
 use Rattle.text.specs.Writing.{Room, Wrote}
 use Rattle.text.proofs.Writing.{room}
 use Rattle.lines.specs.Lines.{refusalLine, tooLong}
@@ -24,7 +24,7 @@ line-room n p l h = let s = refusal-line-short n p in room (omega arith)
 pub line-held : (xs l l₁ l₂ : List ℕ) (r : ℕ) → length xs ≤ length l → Wrote 0 xs l l₁ r → l₂ ≡ filled (length l₁) (take r l₁) → (r ≡ length xs) × (l₂ ≡ filled (length l) xs)
 line-held xs l l₁ l₂ r h w e =
     let n : r ≡ length xs = let i = w .next in omega arith in
-    (n, made xs l l₁ l₂ r n h (w .is) e)
+    (n, held-filled {n = r} (record { fits = h; is = w .is; count = n }) e)
 
 -- x is what a call comes to, f its answer, and first₁ and second′ are what it leaves
 module _ (x : Result) (first second : List ℕ) {f : Filtered} {first₁ second′ : List ℕ} (is : f ≡ filtered x) (zeroed : second′ ≡ secondAfter second) where

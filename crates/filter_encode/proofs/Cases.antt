@@ -13,7 +13,8 @@ use Rattle.filter_format.specs.Narrow.{narrow}
 use Rattle.filter_format.specs.Block.{filterOf, Known, isFilter, headerLength, badLevel}
 use Rattle.filter_format.specs.Encode.{badGiven, badUnits, encodedData}
 use Rattle.filter_encode.specs.Judged.{dataLength, Judged, Headed}
-use Rattle.filter_encode.proofs.Lengths.{whole-units, follow-long}
+use Rattle.filter_format.proofs.Wholes.{whole-units}
+use Rattle.filter_encode.proofs.Lengths.{follow-long}
 
 pub delta-width : {f : Filter} {w : ℕ} → f ≡ Delta w → Known f → IsWidth w
 delta-width e k = subst Known e k

@@ -1,7 +1,7 @@
 -- How long a block is, and that the numbers in its header are bytes. Assumes nothing.
 use mathlib.Core.Path.{_≡_, refl, ap}
 use mathlib.Core.Bool.{Bool, true, false, cond, _&&_}
-use mathlib.Core.List.{List, [], _∷_}
+use mathlib.Core.List.{List, _∷_}
 use Prim.Native.Nat.{ℕ, suc, _+_, _-_, _%_, _≤_}
 use native.Mathlib.Omega.{arith}
 use borrow.Author.Tests.{eqb-true, leb-true, not-false}
@@ -9,27 +9,17 @@ use lib.Dec.{eqb, leb}
 use lib.ListN.{length, replicate, length-append}
 use Rattle.filter_format.specs.declared.Filter.{Filter}
 use Rattle.filter_format.specs.declared.Filter.the-variants.{Raw, Delta, Narrow, Follow, Other}
-use Rattle.filter_format.specs.Units.{notWhole}
-use Rattle.filter_format.specs.Follow.{followed, predicted}
-use Rattle.filter_format.specs.Delta.{latest}
 use Rattle.filter_format.specs.Block.{filterOf, Known, isFilter, headerLength, badLevel}
 use Rattle.filter_format.specs.Encode.{badGiven, badUnits, headerRest, encodedData, encoded}
-use Rattle.filter_format.proofs.Scans.{length-scan}
+use Rattle.filter_format.proofs.Wholes.{whole-units}
+use Rattle.filter_format.proofs.Following.{length-followed}
 use Rattle.filter_format.proofs.Levels.{length-delta}
 use Rattle.filter_format.proofs.Blocks.{known}
 use Rattle.filter_encode.specs.Judged.{dataLength}
 
-pub whole-units : (w : ℕ) (s : List ℕ) → notWhole w s ≡ false → length s % w ≡ 0
-whole-units w s e = eqb-true (length s % w) 0 (not-false _ e)
-
 pub follow-long : (level : ℕ) (follow : List ℕ) → badGiven Follow level follow ≡ false → length follow ≡ 256
 unfolding badGiven
 follow-long level follow e = eqb-true (length follow) 256 (not-false _ e)
-
-length-followed : (follow s : List ℕ) → length (followed follow s) ≡ length s
-unfolding followed
-length-followed follow [] = refl
-length-followed follow (x ∷ xs) = ap suc (length-scan (predicted follow) latest x xs)
 
 length-data : (f : Filter) (level : ℕ) (follow s : List ℕ) → Known f → badUnits f s ≡ false → length (encodedData f level follow s) ≡ dataLength f s
 unfolding encodedData dataLength badUnits

@@ -24,7 +24,7 @@ use filter_narrow::inner::put_narrowed;
 use octets::copy;
 use octets::fill;
 
-// 42
+// What 42 refuses.
 fn bad_given(filter: Filter, level: usize, follow: &[u8]) -> bool
     ensures { λ r. ⌜ r ≡ badGiven filter level (now (follow .entry)) ⌝ }
 {
@@ -37,7 +37,7 @@ fn bad_given(filter: Filter, level: usize, follow: &[u8]) -> bool
     }
 }
 
-// 43
+// What 43 refuses.
 fn bad_units(filter: Filter, source: &[u8]) -> bool
     requires { ⌜ Known filter ⌝ }
     ensures { λ r. ⌜ r ≡ badUnits filter (now (source .entry)) ⌝ }
@@ -51,7 +51,7 @@ fn bad_units(filter: Filter, source: &[u8]) -> bool
     }
 }
 
-// 41, 42, 43
+// All but the room.
 fn given_test(filter: Filter, level: usize, follow: &[u8], source: &[u8]) -> Answer
     requires { ⌜ Known filter ⌝ }
     ensures { λ r. ⌜ r ≡ givenTest filter level (now (follow .entry)) (now (source .entry)) ⌝ }

@@ -10,7 +10,7 @@ use Rattle.octets.specs.Parts.{putAt}
 use Rattle.octets.proofs.Moves.{Up, up-start, up-more, up-done}
 use Rattle.filter_format.specs.Delta.{scan, latest}
 use Rattle.filter_format.specs.Follow.{predicted, followed, unfollowed}
-use Rattle.filter_format.proofs.Scans.{length-scan}
+use Rattle.filter_format.proofs.Following.{length-followed, length-unfollowed}
 
 -- what a scan puts at j, by what it remembers there: that is p, and then what a scan puts that writes what it remembers
 scan-at : (o g : ℕ → ℕ → ℕ) (p : ℕ) (xs : List ℕ) (j : ℕ) → j < length xs → getD (scan o g p xs) j 0 ≡ o (getD (p ∷ scan g g p xs) j 0) (getD xs j 0)
@@ -35,7 +35,7 @@ pub made-followed : (f xs : List ℕ) → Made f xs xs (followed f xs)
 unfolding followed
 made-followed f [] = record { all = refl; first = refl; shown = refl; next = λ j h. absurd (omega arith) }
 made-followed f (x ∷ ys) = record {
-  all = ap suc (length-scan (predicted f) latest x ys);
+  all = length-followed f (x ∷ ys);
   first = refl;
   shown = refl;
   next =
@@ -47,7 +47,7 @@ pub made-unfollowed : (f xs : List ℕ) → Made f (unfollowed f xs) xs (unfollo
 unfolding unfollowed
 made-unfollowed f [] = record { all = refl; first = refl; shown = refl; next = λ j h. absurd (omega arith) }
 made-unfollowed f (x ∷ ys) = record {
-  all = ap suc (length-scan (predicted f) (predicted f) x ys);
+  all = length-unfollowed f (x ∷ ys);
   first = refl;
   shown = refl;
   next = λ j h. scan-at (predicted f) (predicted f) x ys j (omega arith);

@@ -1,10 +1,10 @@
 -- What a format says, what the tests of a block's contents tell, and how long its undoing is. Assumes nothing.
-use mathlib.Core.Path.{_≡_, refl, ap}
+use mathlib.Core.Path.{_≡_, refl}
 use mathlib.Core.Bool.{Bool, true, false, cond}
-use mathlib.Core.List.{List, [], _∷_}
-use Prim.Native.Nat.{ℕ, suc, _*_, _%_, _<_, _≤_}
+use mathlib.Core.List.{List}
+use Prim.Native.Nat.{ℕ, _%_, _<_, _≤_}
 use native.Mathlib.Omega.{arith}
-use borrow.Author.Tests.{eqb-true, ltb-false, not-false}
+use borrow.Author.Tests.{ltb-false}
 use lib.Dec.{eqb}
 use lib.ListN.{length}
 use Rattle.answers.specs.declared.Answer.the-variants.{Accepted}
@@ -12,12 +12,11 @@ use Rattle.answers.proofs.Answers.{first-ok, second-ok, when-ok, under-ok}
 use Rattle.filter_format.specs.declared.Filter.{Filter}
 use Rattle.filter_format.specs.declared.Filter.the-variants.{Raw, Delta, Narrow, Follow, Other}
 use Rattle.filter_format.specs.Units.{IsWidth}
-use Rattle.filter_format.specs.Narrow.{lacking, begun}
-use Rattle.filter_format.specs.Follow.{predicted, unfollowed}
+use Rattle.filter_format.specs.Narrow.{widen, lacking}
 use Rattle.filter_format.specs.Block.{filterOf, Known, headerLength, dataAt, badHeader, badData, decoded, undone, contentsTest}
-use Rattle.filter_format.proofs.Scans.{length-scan}
+use Rattle.filter_format.proofs.Wholes.{whole-units}
 use Rattle.filter_format.proofs.Levels.{length-undelta}
-use Rattle.filter_format.proofs.Narrowing.{length-widen}
+use Rattle.filter_format.proofs.Following.{length-unfollowed}
 
 width : (w : ℕ) → 0 < w → w ≤ 4 → (w ≡ 3 → ⊥) → IsWidth w
 width w a b c = (a, b, c)
@@ -68,18 +67,13 @@ module _ (f : Filter) (room : ℕ) (b : List ℕ) (ok : contentsTest f room b �
 -- data of whole units, and without a unit that is cut short
 pub whole-data : (w : ℕ) (s : List ℕ) → badData (Delta w) s ≡ false → length s % w ≡ 0
 unfolding badData
-whole-data w s e = eqb-true (length s % w) 0 (not-false _ e)
+whole-data w s e = whole-units w s e
 
 pub none-lacking : (w : ℕ) (s : List ℕ) → badData (Narrow w) s ≡ false → lacking w 0 s ≡ 0
 unfolding badData
 none-lacking w s e = let h = ltb-false 0 (lacking w 0 s) e in omega arith
 
 -- how long the data are with their filter undone
-pub length-unfollowed : (follow s : List ℕ) → length (unfollowed follow s) ≡ length s
-unfolding unfollowed
-length-unfollowed follow [] = refl
-length-unfollowed follow (x ∷ xs) = ap suc (length-scan (predicted follow) (predicted follow) x xs)
-
 module _ (level : ℕ) (follow s : List ℕ) where
   pub decoded-raw : decoded Raw level follow s ≡ s
   unfolding decoded
@@ -93,9 +87,9 @@ module _ (level : ℕ) (follow s : List ℕ) where
   unfolding decoded
   length-delta-undone w k h = length-undelta w (k .0) s h level
 
-  pub length-widened : (w : ℕ) → lacking w 0 s ≡ 0 → length (decoded (Narrow w) level follow s) ≡ begun w 0 s * w
+  pub decoded-narrow : (w : ℕ) → decoded (Narrow w) level follow s ≡ widen w 0 s
   unfolding decoded
-  length-widened w h = let e = length-widen w 0 s h in omega arith
+  decoded-narrow w = refl
 
   pub length-follow-undone : length (decoded Follow level follow s) ≡ length s
   unfolding decoded

@@ -13,22 +13,22 @@ use Rattle.octets.specs.Numbers.{Bytes}
 use Rattle.octets.specs.Scans.{run, oneMore, firstNot, isZero}
 use Rattle.octets.proofs.Lists.{length-part}
 use Rattle.octets.proofs.AllBytes.{bytes-part, bytes-drop}
-use Rattle.answers.specs.declared.Answer.{Answer}
 use Rattle.answers.specs.declared.Answer.the-variants.{Accepted, Refused}
 use Rattle.answers.specs.Answer.{when, _then_, acceptedOr}
-use Rattle.answers.proofs.Answers.{first-ok, second-ok, both-ok, when-ok, ok-when, ok-under}
+use Rattle.answers.proofs.Answers.{first-ok, second-ok, both-ok, when-ok, ok-when, ok-under, or-left, or-right}
 use Rattle.filter_format.specs.declared.Filter.{Filter}
 use Rattle.filter_format.specs.declared.Filter.the-variants.{Raw, Delta, Narrow, Follow, Other}
 use Rattle.filter_format.specs.Units.{IsWidth, unitsOf, notWhole}
 use Rattle.filter_format.specs.Delta.{deltaBytes, undeltaBytes}
 use Rattle.filter_format.specs.Follow.{followed, unfollowed}
 use Rattle.filter_format.specs.Block.{filterOf, Known, filterAt, isRaw, isFilter, headerLength, levelAt, followAt, dataAt, badLevel, badHeader, badData, decoded, undone, contentsTest}
-use Rattle.filter_format.specs.Undo.{Result, making, refusing, tested, layerTest, undoLayer, blockTest, undoFrom}
+use Rattle.filter_format.specs.Undo.{Result, making, refusing, layerTest, undoLayer, blockTest, undoFrom}
 use Rattle.filter_format.specs.Encode.{badGiven, badUnits, headerRest, encodedData, encoded, encodeTest, encode, SameFor}
-use Rattle.filter_format.proofs.Wholes.{below-units, bytes-of-units}
+use Rattle.filter_format.proofs.Wholes.{whole-units, below-units, bytes-of-units}
 use Rattle.filter_format.proofs.Levels.{length-delta, length-undelta, undelta-delta-bytes, delta-undelta-bytes}
 use Rattle.filter_format.proofs.Narrowing.{widen-narrow, lacking-narrow}
 use Rattle.filter_format.proofs.Following.{unfollow-follow, follow-unfollow}
+use Rattle.filter_format.proofs.Results.{tested-ok, tested-makes}
 use Rattle.filter_format.proofs.Blocks.{known, header-fits, header-right, data-right}
 
 -- every element of a list of bytes is one
@@ -65,7 +65,7 @@ module _ (format level : ℕ) (follow s : List ℕ) (y : Bytes s) where
   open-delta w k l n =
       let xs = deltaBytes w level s in
       let h = delta-header (eqb w 4) format level xs in
-      let whole : length s % w ≡ 0 = eqb-true (length s % w) 0 (not-false _ n) in
+      let whole : length s % w ≡ 0 = whole-units w s n in
       let same : length xs ≡ length s = length-delta w (k .0) s whole level in
       record {
         fits = h .0;
@@ -77,7 +77,7 @@ module _ (format level : ℕ) (follow s : List ℕ) (y : Bytes s) where
   open-narrow : (w : ℕ) → IsWidth w → notWhole w s ≡ false → Opens (Narrow w) (block (Narrow w)) s
   unfolding block headerLength headerRest encodedData badHeader badData decoded
   open-narrow w k n =
-      let whole : length s % w ≡ 0 = eqb-true (length s % w) 0 (not-false _ n) in
+      let whole : length s % w ≡ 0 = whole-units w s n in
       let small = below-units w s whole y in
       record {
         fits = omega arith;
@@ -108,16 +108,6 @@ module _ (format level : ℕ) (follow s : List ℕ) (y : Bytes s) where
   opened (Narrow w) k i g u z = open-narrow w (k .0) u
   opened Follow k i g u z = open-follow (eqb-true (length follow) 256 (not-false _ g)) z
   opened Other k i g u z = let e : _≡_ {A = ℕ} 0 1 = cc in absurd (omega arith)
-
--- a test's result
-pub tested-ok : (a : Answer) (bytes : List ℕ) → tested a bytes .answer ≡ Accepted → a ≡ Accepted
-unfolding acceptedOr
-tested-ok Accepted bytes e = refl
-tested-ok (Refused n p) bytes e = e
-
-pub tested-makes : (a : Answer) (bytes : List ℕ) → a ≡ Accepted → tested a bytes ≡ making bytes
-unfolding acceptedOr
-tested-makes a bytes e = rw e
 
 -- an opened block passes the tests if there is room
 module _ (room : ℕ) (b s : List ℕ) (o : Opens (filterAt b) b s) where
@@ -225,14 +215,6 @@ delta-block true (x ∷ y ∷ []) h z = absurd (omega arith)
 delta-block true (x ∷ y ∷ v ∷ []) h z = absurd (omega arith)
 delta-block true (x ∷ y ∷ v ∷ u ∷ r) h z = let k = zeros v u (eqb v 0) (eqb u 0) refl refl z in rw (k .0, k .1)
 
-or-left : (t u : Bool) → (t || u) ≡ false → t ≡ false
-or-left false u e = refl
-or-left true u e = e
-
-or-right : (t u : Bool) → (t || u) ≡ false → u ≡ false
-or-right false u e = e
-or-right true u e = let n : _≡_ {A = ℕ} 0 1 = cc in absurd (omega arith)
-
 -- what encoding asks, and what it makes, of a block's data again
 record Again (f : Filter) (b : List ℕ) (level : ℕ) (follow s : List ℕ) : Type 0 where
   pub filter : isFilter f ≡ true
@@ -246,7 +228,7 @@ module _ (b : List ℕ) (y : Bytes b) (level : ℕ) (follow : List ℕ) where
   unfolding headerLength badHeader badData badGiven badUnits headerRest encodedData
   again-delta w k h e n l =
       let xs = drop (headerLength (Delta w)) b in
-      let whole : length xs % w ≡ 0 = eqb-true (length xs % w) 0 (not-false _ n) in
+      let whole : length xs % w ≡ 0 = whole-units w xs n in
       let same : length (undeltaBytes w level xs) ≡ length xs = length-undelta w (k .0) xs whole level in
       record {
         filter = refl;

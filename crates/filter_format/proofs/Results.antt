@@ -8,13 +8,20 @@ use Rattle.octets.proofs.Lists.{put-nil}
 use Rattle.answers.specs.declared.Answer.{Answer}
 use Rattle.answers.specs.declared.Answer.the-variants.{Accepted, Refused}
 use Rattle.answers.specs.Answer.{acceptedOr}
-use Rattle.filter_format.specs.Undo.{tested, filtered}
+use Rattle.filter_format.specs.Undo.{making, tested, filtered}
 use Rattle.filter_format.specs.Encode.{outAfter}
 
 pub tested-answer : (a : Answer) (made : List ℕ) → tested a made .answer ≡ a
 unfolding acceptedOr
 tested-answer Accepted made = refl
 tested-answer (Refused n p) made = refl
+
+pub tested-ok : (a : Answer) (made : List ℕ) → tested a made .answer ≡ Accepted → a ≡ Accepted
+tested-ok a made e = sym (tested-answer a made) ∙ e
+
+pub tested-makes : (a : Answer) (made : List ℕ) → a ≡ Accepted → tested a made ≡ making made
+unfolding acceptedOr
+tested-makes a made e = rw e
 
 module _ {a test : Answer} (e : a ≡ test) (made : List ℕ) where
   -- "refused: 0", "changing nothing"

@@ -15,7 +15,7 @@ use Rattle.filter_format.specs.Delta.{deltaBytes, undeltaBytes}
 use Rattle.filter_format.specs.Undo.{making, tested}
 use Rattle.filter_format.specs.Samples.{samplesTest, encodeSamples, undoSamples}
 use Rattle.filter_format.proofs.Levels.{length-delta, length-undelta, undelta-delta-bytes, delta-undelta-bytes}
-use Rattle.filter_format.proofs.Layers.{tested-ok, tested-makes}
+use Rattle.filter_format.proofs.Results.{tested-ok, tested-makes}
 
 -- a precision that is one is a width
 pub precision-width : (p : ℕ) → not (eqb p 1 || eqb p 2) ≡ false → IsWidth p

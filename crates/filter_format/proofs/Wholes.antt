@@ -1,17 +1,22 @@
 -- Data in whole units are the bytes of their units, and back. Assumes nothing.
 use mathlib.Core.Path.{_≡_, sym, ap, _∙_}
+use mathlib.Core.Bool.{false}
 use mathlib.Core.List.{List}
 use Prim.Native.Nat.{ℕ, zero, _*_, _/_, _%_, _<_}
 use native.Mathlib.Nat.{one-le-pow, div-add-mod, mul-div-right, mul-mod-right}
 use native.Mathlib.Omega.{arith}
+use borrow.Author.Tests.{eqb-true, not-false}
 use lib.ListN.{length, take}
 use lib.Seq.{take-length}
 use Rattle.octets.specs.Numbers.{Below, Bytes, unitBytes, unitsAt}
 use Rattle.octets.proofs.Stands.{length-units, length-unitsAt, units-stand, stand-units, stands-self, units-small}
-use Rattle.filter_format.specs.Units.{range, unitsOf}
+use Rattle.filter_format.specs.Units.{range, unitsOf, notWhole}
 
 pub range-positive : (w : ℕ) → zero < range w
 range-positive w = one-le-pow w 256 (omega arith)
+
+pub whole-units : (w : ℕ) (s : List ℕ) → notWhole w s ≡ false → length s % w ≡ 0
+whole-units w s e = eqb-true (length s % w) 0 (not-false _ e)
 
 module _ (w : ℕ) (s : List ℕ) (whole : length s % w ≡ 0) where
   pub units-in : w * (length s / w) ≡ length s

@@ -28,13 +28,8 @@ widen w due [] = []
 widen w zero (c ∷ s) = cond (eqb c 128) [] (bytesOf w (extended w c)) ++ widen w (cond (eqb c 128) w 0) s
 widen w (suc due) (c ∷ s) = c ∷ widen w due s
 
--- the same walk: how many bytes of a whole unit are lacking at the end, and how many units begin
+-- the same walk: how many bytes of a whole unit are lacking at the end
 unfoldable pub lacking : ℕ → ℕ → List ℕ → ℕ
 lacking w due [] = due
 lacking w zero (c ∷ s) = lacking w (cond (eqb c 128) w 0) s
 lacking w (suc due) (c ∷ s) = lacking w due s
-
-unfoldable pub begun : ℕ → ℕ → List ℕ → ℕ
-begun w due [] = 0
-begun w zero (c ∷ s) = suc (begun w (cond (eqb c 128) w 0) s)
-begun w (suc due) (c ∷ s) = begun w due s

@@ -1,3 +1,4 @@
+pub mod Begun
 pub mod Filling
 pub mod Walk
 pub mod Units

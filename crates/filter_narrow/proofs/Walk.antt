@@ -13,10 +13,11 @@ use Rattle.octets.proofs.Lists.{length-part}
 use Rattle.octets.proofs.Digits.{length-bytesOf, bytesOf-mod}
 use Rattle.octets.proofs.Stands.{number-stands, stands-read}
 use Rattle.filter_format.specs.Units.{IsWidth}
-use Rattle.filter_format.specs.Narrow.{extended, widen, lacking, begun}
-use Rattle.filter_format.proofs.Narrowing.{widen-whole, lacking-whole, begun-whole, widen-long, widen-short, lacking-long, lacking-short, begun-long, begun-short, enough, extended-seen}
+use Rattle.filter_format.specs.Narrow.{extended, widen, lacking}
+use Rattle.filter_format.proofs.Narrowing.{widen-whole, lacking-whole, widen-long, widen-short, lacking-long, lacking-short, enough, extended-seen}
 use Rattle.filter_narrow.specs.declared.Counted.the-variants.{Units, Lacking}
-use Rattle.filter_narrow.specs.Counted.{counted}
+use Rattle.filter_narrow.specs.Counted.{begun, counted}
+use Rattle.filter_narrow.proofs.Begun.{begun-whole, begun-long, begun-short}
 use Rattle.filter_narrow.proofs.Filling.{Filling, filling-start, filling-same, filling-room, filling-more, filling-done, filling-count}
 
 -- the unit that begins at place i of the data s has the bytes u, and the next one begins at j

@@ -22,14 +22,14 @@ use octets::copy;
 use octets::fill;
 use octets::move_down;
 
-pub fn smaller(x: usize, y: usize) -> usize
+pub(crate) fn smaller(x: usize, y: usize) -> usize
     ensures { λ r. ⌜ r ≡ min x y ⌝ }
 {
     if x <= y { x } else { y }
 }
 
 // The tests of a block in a chain, where `left` filters may still be opened.
-pub fn block_test(filter: Filter, block: &[u8], left: usize, room: usize) -> Answer
+pub(crate) fn block_test(filter: Filter, block: &[u8], left: usize, room: usize) -> Answer
     requires { ⌜ filter ≡ filterAt (now block) ⌝ }
     ensures { λ r. ⌜ r ≡ blockTest left room (now (block .entry)) ⌝ }
 {
@@ -48,7 +48,7 @@ pub fn block_test(filter: Filter, block: &[u8], left: usize, room: usize) -> Ans
 }
 
 // The tests of a layer that is undone alone.
-pub fn layer_test(filter: Filter, block: &[u8], room: usize) -> Answer
+pub(crate) fn layer_test(filter: Filter, block: &[u8], room: usize) -> Answer
     requires { ⌜ filter ≡ filterAt (now block) ⌝ }
     ensures { λ r. ⌜ r ≡ layerTest room (now (block .entry)) ⌝ }
 {
@@ -71,7 +71,7 @@ pub fn clear_behind(s: &mut [u8], n: usize)
 }
 
 // A refusal zeroes both buffers.
-pub fn refuse(first: &mut [u8], second: &mut [u8], number: u8, place: usize) -> Filtered
+pub(crate) fn refuse(first: &mut [u8], second: &mut [u8], number: u8, place: usize) -> Filtered
     ensures { λ r. ⌜ (r ≡ filtered (refusing (Refused number place))) × (now (first .exit) ≡ secondAfter (now (first .entry))) × (now (second .exit) ≡ secondAfter (now (second .entry))) ⌝ }
 {
     clear_behind(first, 0);
@@ -111,7 +111,7 @@ fn hand_over(here: &mut [u8], there: &mut [u8], n: usize) -> Filtered
 }
 
 // The block in the first `len` bytes of `here`, by its format. `is_first` says whether `here` is the caller's first buffer.
-pub fn choose(
+pub(crate) fn choose(
     here: &mut [u8],
     there: &mut [u8],
     len: usize,

@@ -18,9 +18,8 @@ use Rattle.sff_format.specs.Model.{Read, File, layout}
 use Rattle.sff_format.specs.ReadTest.{clipTest}
 use Rattle.sff_format.specs.Parse.{parse}
 use Rattle.sff_format.specs.Places.{noRead, replaced}
-use Rattle.answers.proofs.Answers.{first-ok, second-ok, both-ok, ok-when, under-ok, ok-under}
+use Rattle.answers.proofs.Answers.{first-ok, second-ok, both-ok, ok-when, under-ok, ok-under, or-left, or-right}
 use Rattle.sff_format.proofs.Keeps.{none-declared}
-use Rattle.sff_format.proofs.Given.{or-left, or-right}
 use Rattle.answers.proofs.Numbered.{Numbered, zero-accepted, then-numbered, when-numbered}
 use Rattle.sff_format.proofs.Refusals.{file-numbered}
 use Rattle.sff_correction.specs.Record.{position, oldLength, newLength, newQualityLeft, newQualityRight, newAdapterLeft, newAdapterRight, oldName, newName, isClips, isRename, nameFieldTest, unusedTest, newClipsTest, newNameTest, recordTest}

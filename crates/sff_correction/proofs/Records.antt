@@ -15,8 +15,7 @@ use Rattle.octets.proofs.Every.{none-fails}
 use Rattle.octets.proofs.Stands.{number-small}
 use Rattle.answers.specs.declared.Answer.the-variants.{Accepted}
 use Rattle.answers.specs.Answer.{when, _then_}
-use Rattle.answers.proofs.Answers.{first-ok, second-ok, when-ok, same-ok}
-use Rattle.sff_format.proofs.Given.{or-left, or-right}
+use Rattle.answers.proofs.Answers.{first-ok, second-ok, when-ok, same-ok, or-left, or-right}
 use Rattle.sff_correction.specs.Record.{kind, oldLength, newLength, position, newQualityLeft, newQualityRight, newAdapterLeft, newAdapterRight, oldName, newName, isRename, nameFieldTest, unusedTest, newClipsTest, newNameTest, recordTest}
 
 -- neither under nor above

@@ -1,7 +1,7 @@
 -- A read that is lent to be written is accepted exactly if it keeps the rules. Assumes nothing.
 use Prim.Native.Nat.{ℕ, _+_, _≤_, _<_}
-use mathlib.Core.Path.{_≡_, refl}
-use mathlib.Core.Bool.{Bool, true, false, not, _||_}
+use mathlib.Core.Path.{_≡_}
+use mathlib.Core.Bool.{false, not, _||_}
 use mathlib.Core.List.{List}
 use native.Mathlib.Omega.{arith}
 use lib.ListN.{length}
@@ -15,16 +15,8 @@ use Rattle.sff_format.specs.Model.{Read}
 use Rattle.sff_format.specs.Valid.{ValidRead}
 use Rattle.sff_format.specs.ReadTest.{clipTest}
 use Rattle.sff_format.specs.Writing.{badCounts, givenTest, Lent}
-use Rattle.answers.proofs.Answers.{first-ok, second-ok, both-ok, when-ok, ok-when, under-ok, ok-under, own-ok, ok-own}
+use Rattle.answers.proofs.Answers.{first-ok, second-ok, both-ok, when-ok, ok-when, under-ok, ok-under, own-ok, ok-own, or-left, or-right}
 use Rattle.sff_format.proofs.Bases.{walk-ok, calls-ok, ok-bases}
-
-pub or-left : (s t : Bool) → (s || t) ≡ false → s ≡ false
-or-left true t e = e
-or-left false t e = refl
-
-pub or-right : (s t : Bool) → (s || t) ≡ false → t ≡ false
-or-right true t e = absurd (let z : _≡_ {A = ℕ} 0 1 = cc in let a : ⊥ = omega arith in a)
-or-right false t e = e
 
 -- 30
 pub counts-ok : (v F x n q : ℕ) → badCounts F v x n q ≡ false → (v ≡ F) × (x ≡ n) × (q ≡ n) × (n < 4294967296)

@@ -19,7 +19,7 @@ use Rattle.sff_format.specs.Valid.{Valid}
 use Rattle.sff_format.specs.HeaderTest.{indexOffset, indexLength, readCount, flowCharacters}
 use Rattle.sff_format.specs.FileTest.{fileTest}
 use Rattle.sff_format.specs.Writing.{newFile, newTest, newOutcome, newBuffer, givenTest, appendTest, appendOutcome, appendBuffer, Left, appendEach, writeEach, Lent, AllLent}
-use Rattle.answers.proofs.Answers.{first-ok, second-ok, both-ok, when-ok, ok-when, under-ok, ok-under, not-accepted}
+use Rattle.answers.proofs.Answers.{first-ok, second-ok, both-ok, when-ok, ok-when, under-ok, ok-under, not-accepted, or-left, or-right}
 use Rattle.sff_format.proofs.Sizes.{length-header}
 use Rattle.sff_format.proofs.HeaderLaws.{offset-is, index-length-is, count-is, characters-are}
 use Rattle.sff_format.proofs.FileTaken.{header-first, file-taken, file-back}
@@ -27,7 +27,7 @@ use Rattle.sff_format.proofs.Appended.{reads-append, layout-plain}
 use Rattle.sff_format.proofs.Written.{layout-bytes}
 use Rattle.sff_format.proofs.Keeps.{valid-left, valid-next}
 use Rattle.sff_format.proofs.Appends.{plain, plain-valid, length-more, appended-in, carried, carried-out, append-done, append-left, append-valid, is-plain}
-use Rattle.sff_format.proofs.Given.{or-left, or-right, valid-given}
+use Rattle.sff_format.proofs.Given.{valid-given}
 
 -- what is left where a file has been written at the front of a buffer
 abbrev written : List ℕ → File → Left

@@ -14,18 +14,18 @@ ghost use Rattle.filter_format.specs.Encode.{encode, outAfter};
 ghost use Rattle.harness_files.specs.Outs.{stateFrom, flag, steppedWith, steppedOf, putFront, clipsFrom};
 ghost use Rattle.harness_filters.specs.Samples.{samples};
 use harness_corrections::correct_list_out;
-use harness_corrections::correct_out;
 use harness_files::append_out;
 use harness_files::fresh_out;
 use harness_files::insert_out;
 use harness_files::new_out;
 use harness_files::signal_out;
 use harness_files::step_out;
-use harness_files::test_out;
 use harness_filters::encode_out;
 use harness_filters::samples_out;
 use harness_filters::undo_layer_out;
 use harness_filters::undo_out;
+use host_calls::correct_out;
+use host_calls::test_out;
 
 #[no_mangle]
 pub extern "C" fn h_test(file: &[u8], place: &mut u64) -> u64

@@ -1,31 +1,10 @@
-// The corrections' calls with what they answer copied out, as `harness` exports them.
+// The list's correction with what it answers copied out, as `harness` exports it.
 ghost use mathlib.Core.Path.{_≡_};
 ghost use Rattle.answers.specs.Answer.{numberOf, placeOf};
-ghost use Rattle.sff_correction.specs.Correct.{correctOutcome, correctBuffer};
 ghost use Rattle.sff_correction.specs.ListRun.{runList};
 use answers::number_of;
 use answers::place_of;
-use sff_corrector::correct;
 use sff_corrector::correct_list;
-
-pub fn correct_out(
-    buffer: &mut [u8],
-    file_length: u64,
-    record: &[u8],
-    place: &mut u64,
-    length: &mut u64,
-) -> u64
-    ensures { λ r. ⌜ r ≡ numberOf (correctOutcome (now (buffer .entry)) «file_length» (now («record» .entry)) .answer) ⌝ }
-    ensures { λ _. ⌜ now (place .exit) ≡ placeOf (correctOutcome (now (buffer .entry)) «file_length» (now («record» .entry)) .answer) ⌝ }
-    ensures { λ _. ⌜ now (length .exit) ≡ correctOutcome (now (buffer .entry)) «file_length» (now («record» .entry)) .length ⌝ }
-    ensures { λ _. ⌜ now (buffer .exit) ≡ correctBuffer (now (buffer .entry)) «file_length» (now («record» .entry)) ⌝ }
-{
-    let outcome = correct(buffer, file_length as usize, record);
-    let answer = outcome.answer;
-    *place = place_of(answer);
-    *length = outcome.length as u64;
-    number_of(answer)
-}
 
 pub fn correct_list_out(
     buffer: &mut [u8],

@@ -2,7 +2,6 @@
 ghost use mathlib.Core.Path.{_≡_};
 ghost use lib.ListN.{length};
 ghost use Rattle.answers.specs.Answer.{numberOf, placeOf};
-ghost use Rattle.sff_format.specs.FileTest.{fileTest};
 ghost use Rattle.sff_format.specs.Step.{fresh, step, found, stop};
 ghost use Rattle.sff_format.specs.Position.{positionTest, signalTest, fileInsert, fileFirst, fileLast};
 ghost use Rattle.sff_format.specs.Writing.{newOutcome, newBuffer, readOf, appendOutcome, appendBuffer};
@@ -13,7 +12,6 @@ use answers::number_of;
 use answers::place_of;
 use octets::copy;
 use octets::wide;
-use sff::file_test;
 use sff_find::position_test;
 use sff_format::Clips;
 use sff_format::ReadView;
@@ -25,15 +23,6 @@ use sff_signal::signal;
 use sff_signal::signal_test;
 use sff_writer::append;
 use sff_writer::new_file;
-
-pub fn test_out(file: &[u8], place: &mut u64) -> u64
-    ensures { λ r. ⌜ r ≡ numberOf (fileTest (now (file .entry))) ⌝ }
-    ensures { λ _. ⌜ now (place .exit) ≡ placeOf (fileTest (now (file .entry))) ⌝ }
-{
-    let answer = file_test(file);
-    *place = place_of(answer);
-    number_of(answer)
-}
 
 // What a step leaves, as numbers.
 struct Stepped {

@@ -1,8 +1,8 @@
 use mathlib.Core.Path.{ap, _∙_}
 use Rattle.answers.specs.Answer.{numberOf, placeOf}
 use borrow.Author.Needs.{needs}
-use Rattle.harness_corrections.proofs.correct_out.Statement.{statement}
-use Rattle.harness_corrections.proofs.correct_out.Tie as tie
+use Rattle.host_calls.proofs.correct_out.Statement.{statement}
+use Rattle.host_calls.proofs.correct_out.Tie as tie
 
 pub correct-out-spec : {M : Type 1} → statement M
 correct-out-spec =

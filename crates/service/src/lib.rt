@@ -1,0 +1,34 @@
+// Document 01's host: "A C service calls the whole-file test and the single correction on numbers and byte slices." `include/sffstore.h` declares them to C.
+ghost use mathlib.Core.Path.{_≡_};
+ghost use Rattle.answers.specs.Answer.{numberOf, placeOf};
+ghost use Rattle.sff_format.specs.FileTest.{fileTest};
+ghost use Rattle.sff_correction.specs.Correct.{correctOutcome, correctBuffer};
+use host_calls::correct_out;
+use host_calls::test_out;
+
+// The number of the first rule that the bytes break, 0 if they are a file that keeps them all; `place` is where.
+#[no_mangle]
+pub extern "C" fn sffstore_test(file: &[u8], place: &mut u64) -> u64
+    ensures { λ r. ⌜ r ≡ numberOf (fileTest (now (file .entry))) ⌝ }
+    ensures { λ _. ⌜ now (place .exit) ≡ placeOf (fileTest (now (file .entry))) ⌝ }
+{
+    test_out(file, place)
+}
+
+// Corrects the file that fills the first `file_length` bytes of the buffer by one record. Answers the number of the first reason to refuse it, which leaves
+// the buffer as it was, or 0; `length` is the file's length afterwards.
+#[no_mangle]
+pub extern "C" fn sffstore_correct(
+    buffer: &mut [u8],
+    file_length: u64,
+    record: &[u8],
+    place: &mut u64,
+    length: &mut u64,
+) -> u64
+    ensures { λ r. ⌜ r ≡ numberOf (correctOutcome (now (buffer .entry)) «file_length» (now («record» .entry)) .answer) ⌝ }
+    ensures { λ _. ⌜ now (place .exit) ≡ placeOf (correctOutcome (now (buffer .entry)) «file_length» (now («record» .entry)) .answer) ⌝ }
+    ensures { λ _. ⌜ now (length .exit) ≡ correctOutcome (now (buffer .entry)) «file_length» (now («record» .entry)) .length ⌝ }
+    ensures { λ _. ⌜ now (buffer .exit) ≡ correctBuffer (now (buffer .entry)) «file_length» (now («record» .entry)) ⌝ }
+{
+    correct_out(buffer, file_length, record, place, length)
+}

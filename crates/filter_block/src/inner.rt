@@ -10,6 +10,7 @@ ghost use Rattle.filter_format.specs.Block.{filterOf, Known, filterAt, isRaw, i
 ghost use Rattle.filter_block.specs.Tests.{dataTest, Opens};
 ghost use Rattle.octets.specs.Parts.{putAt};
 use answers::Answer;
+use buffers::copy;
 use filter_delta::inner::put_undone;
 use filter_follow::inner::put_unfollowed;
 use filter_format::Filter;
@@ -17,7 +18,6 @@ use filter_narrow::Counted;
 use filter_narrow::inner::count_units;
 use filter_narrow::inner::put_widened;
 use octets::ByteTest;
-use octets::copy;
 use octets::first_not;
 use octets::wide;
 

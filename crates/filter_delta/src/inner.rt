@@ -5,9 +5,9 @@ ghost use lib.ListN.{length};
 ghost use Rattle.octets.specs.Parts.{putAt};
 ghost use Rattle.filter_format.specs.Units.{IsWidth};
 ghost use Rattle.filter_format.specs.Delta.{deltaBytes, undeltaBytes, OneLevelLess};
+use buffers::copy;
 use filter_units::inner::get_unit;
 use filter_units::inner::put_unit;
-use octets::copy;
 
 // One level off: each unit becomes the sum of it and of those before.
 fn undo_pass(s: &mut [u8], w: usize)

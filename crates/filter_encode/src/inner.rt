@@ -11,6 +11,8 @@ ghost use Rattle.filter_format.specs.Undo.{filtered};
 ghost use Rattle.filter_format.specs.Encode.{badGiven, badUnits, headerRest, encodedData, encoded, encode};
 ghost use Rattle.filter_encode.specs.Judged.{givenTest, dataLength, Judged, Headed};
 use answers::Answer;
+use buffers::copy;
+use buffers::fill;
 use filter_block::inner::bad_level;
 use filter_block::inner::filter_of;
 use filter_block::inner::header_length;
@@ -21,8 +23,6 @@ use filter_format::Filter;
 use filter_format::Filtered;
 use filter_narrow::inner::narrowed_length;
 use filter_narrow::inner::put_narrowed;
-use octets::copy;
-use octets::fill;
 
 // What 42 refuses.
 fn bad_given(filter: Filter, level: usize, follow: &[u8]) -> bool

@@ -5,10 +5,10 @@ ghost use lib.ListN.{length};
 ghost use Rattle.octets.specs.Parts.{putAt};
 ghost use Rattle.octets.specs.Numbers.{number, bytesOf};
 ghost use Rattle.filter_format.specs.Units.{IsWidth, range};
+use buffers::put16;
+use buffers::put32;
 use octets::get16;
 use octets::get32;
-use octets::put16;
-use octets::put32;
 use octets::wide;
 
 // The unit of w bytes at `at`.

@@ -11,6 +11,9 @@ ghost use Rattle.filter_format.specs.Undo.{filtered, refusing, making, secondAf
 ghost use Rattle.filter_block.specs.Tests.{Opens};
 ghost use Rattle.filters.specs.Sides.{Undid};
 use answers::Answer;
+use buffers::copy;
+use buffers::fill;
+use buffers::move_down;
 use filter_block::inner::contents_test;
 use filter_block::inner::filter_at;
 use filter_block::inner::is_filter;
@@ -18,9 +21,6 @@ use filter_block::inner::is_raw;
 use filter_block::inner::undo_filter;
 use filter_format::Filter;
 use filter_format::Filtered;
-use octets::copy;
-use octets::fill;
-use octets::move_down;
 
 pub(crate) fn smaller(x: usize, y: usize) -> usize
     ensures { λ r. ⌜ r ≡ min x y ⌝ }

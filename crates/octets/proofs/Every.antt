@@ -1,11 +1,14 @@
 -- A test over the whole of a list. Assumes nothing.
-use Prim.Native.Nat.{ℕ, suc}
-use mathlib.Core.Path.{_≡_, refl, ap}
-use mathlib.Core.Bool.{Bool, true, false}
+use Prim.Native.Nat.{ℕ, suc, _+_, _≤_, _<_, compare·suc-suc}
+use mathlib.Core.Path.{_≡_, refl, sym, ap, _∙_}
+use mathlib.Core.Bool.{Bool, true, false, not, _||_, or-assoc}
 use mathlib.Core.List.{List, [], _∷_, _++_}
 use native.Mathlib.Omega.{arith}
-use lib.ListN.{length}
-use borrow.Author.Tests.{ltb-false, le-ltb}
+use native.Mathlib.Numerals.{add-one}
+use lib.ListN.{length, take, getD}
+use lib.Dec.{ltb}
+use lib.Seq.{take-suc, take-all}
+use borrow.Author.Tests.{ltb-false, le-ltb, lt-ltb}
 use Rattle.octets.specs.Scans.{oneMore, run, Every, fails}
 use Rattle.octets.proofs.Scan.{run-le}
 
@@ -34,3 +37,40 @@ pub every-both : (test : ℕ → Bool) (xs ys : List ℕ) → Every test xs → 
 unfolding run
 every-both test [] ys e f = f
 every-both test (x ∷ xs) ys e f = let g = first-passes (test x) _ _ e in rw (g .0) (ap suc (every-both test xs ys (g .1) f))
+
+-- one element more
+fails-one : (t : Bool) → ltb (oneMore t 0) 1 ≡ not t
+fails-one true = refl
+fails-one false = refl
+
+more-fails : (t : Bool) (k n : ℕ) → ltb (oneMore t k) (suc n) ≡ (not t || ltb k n)
+more-fails true k n = rw compare·suc-suc
+more-fails false k n = lt-ltb 0 (suc n) (omega arith)
+
+pub fails-snoc : (test : ℕ → Bool) (xs : List ℕ) (x : ℕ) → fails test (xs ++ (x ∷ [])) ≡ (fails test xs || not (test x))
+unfolding run
+fails-snoc test [] x = fails-one (test x)
+fails-snoc test (y ∷ xs) x =
+    more-fails (test y) _ _
+    ∙ ap (λ (b : Bool). not (test y) || b) (fails-snoc test xs x)
+    ∙ sym (or-assoc (not (test y)) (fails test xs) (not (test x)))
+    ∙ ap (λ (b : Bool). b || not (test x)) (sym (more-fails (test y) _ _))
+
+-- The invariant of a test of a whole list that no element ends: what was seen of its first j elements.
+pub record Told (p : ℕ → Bool) (l : List ℕ) (j : ℕ) (failed : Bool) : Type 0 where
+  pub low : j ≤ length l
+  pub is : failed ≡ fails p (take j l)
+
+pub told-start : (p : ℕ → Bool) (l : List ℕ) → Told p l 0 false
+unfolding run
+told-start p l = record { low = omega arith; is = refl }
+
+module _ {p : ℕ → Bool} {l : List ℕ} {j : ℕ} {failed : Bool} (s : Told p l j failed) where
+  pub told-more : j < length l → {r : Bool} → r ≡ p (getD l j 0) → Told p l (j + 1) (failed || not r)
+  told-more h e = record {
+    low = omega arith;
+    is = rw (e, s .is, add-one j, take-suc l j 0 h) (sym (fails-snoc p (take j l) (getD l j 0)));
+  }
+
+  pub told-all : length l ≤ j → failed ≡ fails p l
+  told-all h = rw (take-all j l h) at (s .is)

@@ -1,15 +1,15 @@
 -- The invariants of a loop that puts the list xs, of length n, into a slice at `at`, one store a turn: from its front (`Up`) or from its end (`Down`). Assumes nothing.
-use mathlib.Core.Path.{_≡_, refl, sym, _∙_}
-use mathlib.Core.List.{List}
+use mathlib.Core.Path.{_≡_, refl, sym, ap, _∙_}
+use mathlib.Core.List.{List, _++_}
 use Prim.Native.Nat.{ℕ, suc, _+_, _-_, _≤_, _<_}
 use native.Mathlib.Nat.{add-zero, add-assoc}
 use native.Mathlib.Numerals.{add-one}
 use native.Mathlib.Omega.{arith}
 use borrow.Author.Needs.{needs}
-use lib.ListN.{replicate, length-replicate, getD-replicate, length, take, drop, set, getD, length-set, drop-of-length-le}
-use lib.Seq.{take-suc, drop-cons, take-all, length-take-le}
+use lib.ListN.{replicate, length-replicate, getD-replicate, length, take, drop, set, getD, length-set, length-drop, take-append-drop, drop-of-length-le}
+use lib.Seq.{take-suc, drop-cons, take-all, take-add, drop-drop, length-take-le}
 use Rattle.octets.specs.Parts.{putAt, part}
-use Rattle.octets.proofs.Lists.{put-nil, put-snoc, put-cons, getD-before, getD-after, length-part, getD-part}
+use Rattle.octets.proofs.Lists.{put-nil, put-snoc, put-cons, put-next, put-before, length-put, getD-before, getD-after, length-part, getD-part, part-take, part-put, part-before, part-after}
 
 -- s is s₀ with the first j elements of xs put
 pub record Up (at n : ℕ) (xs s₀ s : List ℕ) (j : ℕ) : Type 0 where
@@ -90,6 +90,56 @@ up-value {at} {from} {n} {s₀} {s} {j} u h k = up-rest u (from + j) (omega arit
 
 pub down-value : {at from n : ℕ} {s₀ s : List ℕ} {j : ℕ} → Down at n (part from n s₀) s₀ s j → from ≤ at → 0 < j → getD s (from + (j - 1)) 0 ≡ getD (part from n s₀) (j - 1) 0
 down-value {at} {from} {n} {s₀} {s} {j} u h k = down-rest u (from + (j - 1)) (omega arith) ∙ part-value from n s₀ (j - 1) (omega arith)
+
+-- k elements moved by way of a list of as many, which holds them in between
+pub moved-through : (from to k : ℕ) (b s : List ℕ) {held t : List ℕ} → length b ≡ k → from + k ≤ length s → held ≡ putAt 0 (part from k s) b → t ≡ putAt to (part 0 k held) s → t ≡ putAt to (part from k s) s
+moved-through from to k b s e h i w = rw (w, i, part-put 0 k (part from k s) b (length-part from k s h) (omega arith))
+
+-- A block of k elements moved at once, of a move whose two stretches may overlap: what it reads is still as it was.
+part-in : (j k from n : ℕ) (l : List ℕ) → j + k ≤ n → from + n ≤ length l → part j k (part from n l) ≡ part (from + j) k l
+part-in j k from n l h i =
+    let len : n ≤ length (drop from l) = simp length-drop (omega arith) in
+    part-take j k n (drop from l) h len ∙ ap (λ (r : List ℕ). take k r) (drop-drop j from l)
+
+module _ {at from n : ℕ} {s₀ s : List ℕ} {j : ℕ} where
+  pub up-block : Up at n (part from n s₀) s₀ s j → at ≤ from → from + n ≤ length s₀ → (k : ℕ) → j + k ≤ n → {t : List ℕ} → t ≡ putAt (at + j) (part (from + j) k s) s → Up at n (part from n s₀) s₀ t (j + k)
+  up-block u h i k l {t} w =
+      let xs : List ℕ = part from n s₀ in
+      let len : length (take j xs) ≡ j = length-take-le j xs (omega arith) in
+      let read : part (from + j) k s ≡ part j k xs =
+      rw (u .is) (part-after (from + j) k at (take j xs) s₀ (rw len (omega arith)) (rw len (omega arith)) ∙ sym (part-in j k from n s₀ l i)) in
+      let put : t ≡ putAt at (take (j + k) xs) s₀ =
+      w ∙ rw (read, take-add) (rw (u .is) (put-next at j (take j xs) (part j k xs) s₀ len (omega arith))) in
+      record { len = u .len; fits = u .fits; low = l; same = rw put (length-put at (take (j + k) xs) s₀ (rw (length-take-le (j + k) xs (omega arith)) (omega arith))); is = put }
+
+  -- the rest of the move as one block
+  pub up-last : Up at n (part from n s₀) s₀ s j → at ≤ from → from + n ≤ length s₀ → {t : List ℕ} → t ≡ putAt (at + j) (part (from + j) (n - j) s) s → t ≡ putAt at (part from n s₀) s₀
+  up-last u h i w = up-done (up-block u h i (n - j) (omega arith) w) (omega arith)
+
+  pub down-block : Down at n (part from n s₀) s₀ s j → from ≤ at → (k : ℕ) → k ≤ j → {t : List ℕ} → t ≡ putAt (at + (j - k)) (part (from + (j - k)) k s) s → Down at n (part from n s₀) s₀ t (j - k)
+  down-block u h k l {t} w =
+      let xs : List ℕ = part from n s₀ in
+      let m : ℕ = j - k in
+      let e : j ≡ m + k = omega arith in
+      let e′ : at + j ≡ at + m + k = omega arith in
+      let read : part (from + m) k s ≡ part m k xs =
+      rw (u .is) (part-before (from + m) k (at + j) (drop j xs) s₀ (omega arith) (omega arith) ∙ sym (part-in m k from n s₀ (omega arith) (omega arith))) in
+      let len : length (part m k xs) ≡ k = length-part m k xs (omega arith) in
+      let rest : part m k xs ++ drop j xs ≡ drop m xs =
+      ap (λ (i : ℕ). part m k xs ++ drop i xs) e ∙ ap (λ (r : List ℕ). part m k xs ++ r) (sym (drop-drop k m xs)) ∙ take-append-drop k (drop m xs) in
+      let was : s ≡ putAt (at + m + k) (drop j xs) s₀ = u .is ∙ ap (λ (i : ℕ). putAt i (drop j xs) s₀) e′ in
+      let put : t ≡ putAt (at + m) (drop m xs) s₀ =
+      w
+      ∙ ap (λ (r : List ℕ). putAt (at + m) r s) read
+      ∙ ap (λ (r : List ℕ). putAt (at + m) (part m k xs) r) was
+      ∙ put-before (at + m) k (part m k xs) (drop j xs) s₀ len (omega arith)
+      ∙ ap (λ (r : List ℕ). putAt (at + m) r s₀) rest in
+      record { len = u .len; fits = u .fits; low = omega arith; same = rw put (length-put (at + m) (drop m xs) s₀ (simp length-drop (omega arith))); is = put }
+
+  pub down-last : Down at n (part from n s₀) s₀ s j → from ≤ at → {t : List ℕ} → t ≡ putAt at (part from j s) s → t ≡ putAt at (part from n s₀) s₀
+  down-last u h w =
+      let none : j - j ≡ 0 = omega arith in
+      down-done (down-block u h j (omega arith) (rw (none, add-zero at, add-zero from) w)) (omega arith)
 
 -- what `search` needs for the every need of a loop that moves
 pub ruleset moves = (up-start, up-more, up-done, down-start, down-more, down-done, same-value, part-value, up-value, down-value, length-replicate, length-part, needs)

@@ -1,7 +1,27 @@
+use Prim.Native.Nat.{_-_}
 use borrow.Author.Needs.{needs}
-use Rattle.octets.proofs.Scan.{first-run}
+use lib.ListN.{length}
+use Rattle.octets.specs.Scans.{passes}
+use Rattle.octets.proofs.Every.{Told, told-start, told-more, told-all}
 use Rattle.octets.proofs.fails.Statement.{statement}
 use Rattle.octets.proofs.fails.Tie as tie
 
+abbrev Inv-loop : tie.InvT-loop
+Inv-loop test s n failed₀ j₀ failed j = Told (passes test) s j failed
+
+abbrev μ-loop : tie.MeasureT-loop
+μ-loop test s n failed₀ j₀ failed j = length s - j
+
 pub fails-spec : {M : Type 1} → statement M
-fails-spec = tie.close (tie.spec (λ c κs. search needs) (λ c. rw (c .first-not .ensures .0, first-run)))
+fails-spec =
+    tie.close
+    (tie.spec
+    Inv-loop
+    μ-loop
+    (λ c. search (told-start, needs))
+    (λ c. search needs)
+    (λ c κs. search needs)
+    (λ c. search needs)
+    (λ c. search needs)
+    (λ c. search (told-more, needs))
+    (λ c. search (told-all, needs)))

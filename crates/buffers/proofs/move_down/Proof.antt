@@ -1,10 +1,11 @@
 use Prim.Native.Nat.{_-_}
 use native.Mathlib.Omega.{arith}
+use borrow.Author.Needs.{needs}
 use Rattle.octets.specs.Parts.{part}
-use Rattle.octets.proofs.Moves.{Up, up-start, moves}
+use Rattle.octets.proofs.Moves.{Up, up-start, up-block, up-last, moves}
 use Rattle.octets.proofs.Lists.{length-part}
-use Rattle.octets.proofs.move_down.Statement.{statement}
-use Rattle.octets.proofs.move_down.Tie as tie
+use Rattle.buffers.proofs.move_down.Statement.{statement}
+use Rattle.buffers.proofs.move_down.Tie as tie
 
 abbrev Inv-loop : tie.InvT-loop
 Inv-loop s₀ from to n j₀ s j = Up to n (part from n s₀) s₀ s j
@@ -19,14 +20,18 @@ move-down-spec =
     Inv-loop
     μ-loop
     (λ c.
-    let a = c .args in
+    let a = c .before .args in
     up-start _ _ _ _ (length-part (a .from) (a .n) (a .s .now) (omega arith)) (omega arith))
     (λ c. search moves)
     (λ c. search moves)
     (λ c. search moves)
+    (λ c κs. search moves)
+    (λ c. search moves)
+    (λ c. search moves)
+    (λ c. search (up-block, needs))
     (λ c. search moves)
     (λ c. search moves)
     (λ c. search moves)
+    (λ c κs. search moves)
     (λ c. search moves)
-    (λ c. search moves)
-    (λ c. search moves))
+    (λ c. search (up-last, needs)))

@@ -1,9 +1,9 @@
 use native.Mathlib.Omega.{arith}
 use Rattle.octets.specs.Parts.{part}
 use Rattle.octets.proofs.Moves.{Down, down-start, moves}
 use Rattle.octets.proofs.Lists.{length-part}
-use Rattle.octets.proofs.move_up.Statement.{statement}
-use Rattle.octets.proofs.move_up.Tie as tie
+use Rattle.buffers.proofs.bytes_up.Statement.{statement}
+use Rattle.buffers.proofs.bytes_up.Tie as tie
 
 abbrev Inv-loop : tie.InvT-loop
 Inv-loop s₀ from to n j₀ s j = Down to n (part from n s₀) s₀ s j
@@ -11,8 +11,8 @@ Inv-loop s₀ from to n j₀ s j = Down to n (part from n s₀) s₀ s j
 abbrev μ-loop : tie.MeasureT-loop
 μ-loop s₀ from to n j₀ s j = j
 
-pub move-up-spec : {M : Type 1} → statement M
-move-up-spec =
+pub bytes-up-spec : {M : Type 1} → statement M
+bytes-up-spec =
     tie.close
     (tie.spec
     Inv-loop

@@ -1,0 +1,21 @@
+use native.Mathlib.Omega.{arith}
+use Prim.Native.Nat.{ℕ}
+use lib.ListN.{replicate, length-replicate}
+use borrow.Author.Needs.{needs}
+use Rattle.octets.proofs.Moves.{moved-through}
+use Rattle.buffers.proofs.move_block.Statement.{statement}
+use Rattle.buffers.proofs.move_block.Tie as tie
+
+pub move-block-spec : {M : Type 1} → statement M
+move-block-spec =
+    tie.close
+    (tie.spec
+    (λ c. search needs)
+    (λ c κs. search needs)
+    (λ c. search needs)
+    (λ c κs. search needs)
+    (λ c. search needs)
+    (λ c.
+    let d = c .before .before in
+    let a = d .before .before .before .before .before .before .before .before .args in
+    moved-through (a .from) (a .to) 4096 (replicate 4096 0) (a .s .now) (length-replicate {A = ℕ} 4096 0) (omega arith) (d .before .before .before .before .copy .ensures) (d .copy2 .ensures)))

@@ -20,13 +20,13 @@ use lines::inner::put_too_long;
 use octets::stretch;
 use sff::file_test;
 use sff::inner::past_index;
+use sff_clips::first_base;
+use sff_clips::last_base;
 use sff_format::ReadView;
 use sff_header::Header;
 use sff_header::inner::header_fields;
-use sff_read::first_base;
 use sff_read::inner::read_end;
 use sff_read::inner::read_view;
-use sff_read::last_base;
 use sff_view::insert;
 use sff_view::name;
 

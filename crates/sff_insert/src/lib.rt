@@ -2,10 +2,10 @@
 ghost use mathlib.Core.Path.{_≡_};
 ghost use Rattle.sff_format.specs.Position.{fileInsert, fileFirst, fileLast};
 use answers::Answer;
+use sff_clips::first_base;
+use sff_clips::last_base;
 use sff_find::inner::view_of;
 use sff_find::position_test;
-use sff_read::first_base;
-use sff_read::last_base;
 use sff_walk::BasePosition;
 
 // The first and the last base of an insert, which is empty where the last comes before the first.

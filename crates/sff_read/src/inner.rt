@@ -3,9 +3,8 @@ ghost use mathlib.Core.Path.{_≡_};
 ghost use Prim.Native.Nat.{_+_, _*_, _≤_, _<_};
 ghost use lib.ListN.{length};
 ghost use Rattle.octets.specs.Parts.{part};
-ghost use Rattle.sff_format.specs.Rules.{leftLimit, rightLimit};
 ghost use Rattle.answers.specs.Answer.{shifted};
-ghost use Rattle.sff_format.specs.ReadTest.{nameTest, clipTest, basesTest, dataTest, readTest, readEnd};
+ghost use Rattle.sff_format.specs.ReadTest.{nameTest, basesTest, dataTest, readTest, readEnd};
 ghost use Rattle.sff_format.specs.View.{viewAt};
 ghost use Rattle.sff_read.specs.Fields.{FieldsAt};
 use answers::Answer;
@@ -14,6 +13,7 @@ use octets::first_not;
 use octets::get16;
 use octets::get32;
 use octets::up8;
+use sff_clips::inner::clip_test;
 use sff_format::ReadView;
 use sff_format::Stretch;
 use sff_walk::BasePosition;
@@ -61,50 +61,6 @@ fn name_test(s: &[u8], p: usize, section: usize, name_length: usize) -> Answer
     let padding = first_not(ByteTest::Zero, s, name_end, end);
     if padding < end {
         return Answer::Refused(7, padding);
-    }
-    Answer::Accepted
-}
-
-// What a left and a right clip of a read may hold at most.
-fn left_limit(bases: usize) -> BasePosition
-    requires { ⌜ bases < 4294967296 ⌝ }
-    ensures { λ r. ⌜ r .0 ≡ leftLimit bases ⌝ }
-{
-    BasePosition(bases)
-}
-
-fn right_limit(bases: usize) -> BasePosition
-    requires { ⌜ bases < 4294967296 ⌝ }
-    ensures { λ r. ⌜ r .0 ≡ rightLimit bases ⌝ }
-{
-    BasePosition(bases)
-}
-
-// 9: the clips of the read at p.
-pub fn clip_test(
-    p: usize,
-    bases: usize,
-    quality_left: BasePosition,
-    quality_right: BasePosition,
-    adapter_left: BasePosition,
-    adapter_right: BasePosition,
-) -> Answer
-    requires { ⌜ (p + 16 < 18446744073709551616) × (bases < 4294967296) ⌝ }
-    ensures { λ r. ⌜ r ≡ clipTest p bases («quality_left» .0) («quality_right» .0) («adapter_left» .0) («adapter_right» .0) ⌝ }
-{
-    let left = left_limit(bases);
-    let right = right_limit(bases);
-    if quality_left.0 > left.0 {
-        return Answer::Refused(9, p + 8);
-    }
-    if quality_right.0 > right.0 {
-        return Answer::Refused(9, p + 10);
-    }
-    if adapter_left.0 > left.0 {
-        return Answer::Refused(9, p + 12);
-    }
-    if adapter_right.0 > right.0 {
-        return Answer::Refused(9, p + 14);
     }
     Answer::Accepted
 }

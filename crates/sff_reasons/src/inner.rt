@@ -21,10 +21,10 @@ use octets::get32;
 use octets::same_part;
 use octets::up8;
 use octets::wide;
+use sff_clips::inner::clip_test;
 use sff_header::Header;
 use sff_header::inner::header_fields;
 use sff_header::inner::is_declared;
-use sff_read::inner::clip_test;
 use sff_read::inner::read_end;
 use sff_walk::BasePosition;
 

@@ -2,10 +2,10 @@
 ghost use mathlib.Core.Path.{_≡_};
 ghost use Rattle.sff_format.specs.View.{bytesIn, insertIn};
 use octets::stretch;
+use sff_clips::first_base;
+use sff_clips::last_base;
 use sff_format::ReadView;
 use sff_format::Stretch;
-use sff_read::first_base;
-use sff_read::last_base;
 
 fn bytes_in(s: &[u8], x: Stretch) -> &[u8]
     ensures { λ r. ⌜ now r ≡ bytesIn (now (s .entry)) x ⌝ }

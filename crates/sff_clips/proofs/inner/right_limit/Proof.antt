@@ -1,7 +1,7 @@
 use Rattle.sff_format.specs.Rules.{rightLimit}
 use borrow.Author.Needs.{needs}
-use Rattle.sff_read.proofs.inner.right_limit.Statement.{statement}
-use Rattle.sff_read.proofs.inner.right_limit.Tie as tie
+use Rattle.sff_clips.proofs.inner.right_limit.Statement.{statement}
+use Rattle.sff_clips.proofs.inner.right_limit.Tie as tie
 
 returns : tie.Need-returns
 unfolding rightLimit

@@ -1,7 +1,7 @@
 use Rattle.sff_format.specs.Rules.{leftLimit}
 use borrow.Author.Needs.{needs}
-use Rattle.sff_read.proofs.inner.left_limit.Statement.{statement}
-use Rattle.sff_read.proofs.inner.left_limit.Tie as tie
+use Rattle.sff_clips.proofs.inner.left_limit.Statement.{statement}
+use Rattle.sff_clips.proofs.inner.left_limit.Tie as tie
 
 returns : tie.Need-returns
 unfolding leftLimit

@@ -1,7 +1,7 @@
 use Rattle.sff_format.specs.Insert.{rightEnd}
 use Rattle.answers.proofs.Answers.{tests}
-use Rattle.sff_read.proofs.right_end.Statement.{statement}
-use Rattle.sff_read.proofs.right_end.Tie as tie
+use Rattle.sff_clips.proofs.right_end.Statement.{statement}
+use Rattle.sff_clips.proofs.right_end.Tie as tie
 
 returns : tie.Need-returns
 unfolding rightEnd

@@ -2,8 +2,8 @@ use Rattle.answers.proofs.Answers.{tests}
 use Rattle.answers.specs.Answer.{_then_, when}
 use Rattle.sff_format.specs.ReadTest.{clipTest}
 use borrow.Author.Needs.{needs}
-use Rattle.sff_read.proofs.inner.clip_test.Statement.{statement}
-use Rattle.sff_read.proofs.inner.clip_test.Tie as tie
+use Rattle.sff_clips.proofs.inner.clip_test.Statement.{statement}
+use Rattle.sff_clips.proofs.inner.clip_test.Tie as tie
 
 returns : tie.Need-returns
 unfolding clipTest _then_ when

@@ -1,0 +1,51 @@
+// For the crates above, which know that a read has fewer than 2^32 bases and that its place leaves room for its fields: hence each `requires`.
+ghost use mathlib.Core.Path.{_≡_};
+ghost use Prim.Native.Nat.{_+_, _<_};
+ghost use Rattle.sff_format.specs.Rules.{leftLimit, rightLimit};
+ghost use Rattle.sff_format.specs.ReadTest.{clipTest};
+use answers::Answer;
+use sff_walk::BasePosition;
+
+// What a left and a right clip of a read may hold at most.
+fn left_limit(bases: usize) -> BasePosition
+    requires { ⌜ bases < 4294967296 ⌝ }
+    ensures { λ r. ⌜ r .0 ≡ leftLimit bases ⌝ }
+{
+    BasePosition(bases)
+}
+
+fn right_limit(bases: usize) -> BasePosition
+    requires { ⌜ bases < 4294967296 ⌝ }
+    ensures { λ r. ⌜ r .0 ≡ rightLimit bases ⌝ }
+{
+    BasePosition(bases)
+}
+
+// 9: the clips of the read at p.
+pub fn clip_test(
+    p: usize,
+    bases: usize,
+    quality_left: BasePosition,
+    quality_right: BasePosition,
+    adapter_left: BasePosition,
+    adapter_right: BasePosition,
+) -> Answer
+    requires { ⌜ (p + 16 < 18446744073709551616) × (bases < 4294967296) ⌝ }
+    ensures { λ r. ⌜ r ≡ clipTest p bases («quality_left» .0) («quality_right» .0) («adapter_left» .0) («adapter_right» .0) ⌝ }
+{
+    let left = left_limit(bases);
+    let right = right_limit(bases);
+    if quality_left.0 > left.0 {
+        return Answer::Refused(9, p + 8);
+    }
+    if quality_right.0 > right.0 {
+        return Answer::Refused(9, p + 10);
+    }
+    if adapter_left.0 > left.0 {
+        return Answer::Refused(9, p + 12);
+    }
+    if adapter_right.0 > right.0 {
+        return Answer::Refused(9, p + 14);
+    }
+    Answer::Accepted
+}

@@ -91,7 +91,7 @@ bool make_room(const char *path, struct bytes *bytes, size_t more)
 
 /* Opening what may be replaced */
 
-static bool lead_to_copy(struct original *original)
+static bool find_names(struct original *original)
 {
     original->path = realpath(original->given, NULL);
     if (original->path == NULL)
@@ -179,7 +179,7 @@ static bool open_locked(struct original *original)
 bool open_original(const char *path, struct original *original)
 {
     *original = (struct original){.given = path, .folder = -1, .file = -1};
-    if (lead_to_copy(original) && open_folder(original) && open_locked(original)) {
+    if (find_names(original) && open_folder(original) && open_locked(original)) {
         /* A run that was killed may have left its copy; as this one has the lock, no other is at work on it. */
         unlinkat(original->folder, original->copy_name, 0);
         return true;
@@ -259,5 +259,6 @@ bool replace_original(const struct original *original, const struct bytes *bytes
 bool flush_folder(const struct original *original)
 {
     return fsync(original->folder) == 0 ||
-           complain(original->given, "is corrected, but may be the old file again if the machine fails now, because its folder cannot be flushed");
+           complain(original->given, "is corrected, but may be the old file again if the machine fails now, "
+                                     "because its folder cannot be flushed");
 }

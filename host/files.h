@@ -28,8 +28,8 @@ struct original {
 };
 
 /*
- * Each function that answers false has said why on standard error, and has left nothing to be freed.
- * What `open_original` opened is closed by `close_original`, also where another call failed in between.
+ * Each function that answers false has said why on standard error, and has left nothing more to be freed
+ * or closed than before. What was read is freed by `free(bytes.start)`.
  */
 
 /* The whole of a file, or of anything else that can be read and ends. */

@@ -63,8 +63,11 @@ static void wait_for_go(void)
 {
     const char *path = getenv("INTERFERE_WAIT");
     REAL(close)(REAL(open)(path, O_WRONLY | O_CREAT | O_CLOEXEC, 0600));
-    while (access(path, F_OK) == 0)
+    for (int waits = 0; access(path, F_OK) == 0; waits++) {
+        if (waits == 60000)
+            _exit(3);
         usleep(1000);
+    }
 }
 
 static bool is_way(bool is_this, const char *name)

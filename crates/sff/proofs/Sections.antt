@@ -29,52 +29,38 @@ characters-fit b e = let f = header-fits b e in let s = header-sized b e in omeg
 pub due-is : (h : Header) (b : List ℕ) → h ≡ headerOf b → (p : ℕ) (q r : Bool) → r ≡ indexDue (h .«index_offset») (h .«index_length») p q → (t : Bool) → r ≡ t → indexHere b p q ≡ t
 due-is h b e p q r d t f = rw (offset-of h b e, index-length-of h b e) (sym d ∙ f)
 
--- an index that is due is not passed yet
-pub due-open : (b : List ℕ) (p : ℕ) (q : Bool) → indexHere b p q ≡ true → q ≡ false
-unfolding indexDue
-due-open b p true h = let z : _≡_ {A = ℕ} 0 1 = cc in absurd (omega arith)
-due-open b p false h = refl
-
--- how many turns are left at most: one for each read, and one for an index
-abbrev pub turns : ℕ → Bool → ℕ
-turns n q = 2 * n + cond q 0 1
-
-pub turns-index : (n : ℕ) (q : Bool) → q ≡ false → turns n true < turns n q
-turns-index n q e = rw e (omega arith)
-
-pub turns-read : (n : ℕ) (q : Bool) → 0 < n → turns (n - 1) q < turns n q
-turns-read n q h = omega arith
-
--- n reads are left at the boundary p, and what it asks is what the header's end asks
-pub record Going (b : List ℕ) (n p : ℕ) (q : Bool) : Type 0 where
+-- n reads are left at the boundary p, and what it asks is the whole answer
+pub record Going (b : List ℕ) (whole : Answer) (n p : ℕ) (q : Bool) : Type 0 where
   pub head : headerTest b ≡ Accepted
   pub fits : p ≤ length b
-  pub is : boundaryTest b (readCount b) (headerLength b) false ≡ boundaryTest b n p q
+  pub is : whole ≡ boundaryTest b n p q
 
-pub going-start : (b : List ℕ) → headerTest b ≡ Accepted → Going b (readCount b) (headerLength b) false
-going-start b e = record { head = e; fits = header-fits b e; is = refl }
+pub going-start : (b : List ℕ) → headerTest b ≡ Accepted → (n p : ℕ) (q : Bool) → p ≤ length b → Going b (boundaryTest b n p q) n p q
+going-start b e n p q h = record { head = e; fits = h; is = refl }
 
--- what a turn answers where it ends: what the header's end asks
-abbrev pub Whole : List ℕ → Answer → Type 0
-Whole b a = a ≡ boundaryTest b (readCount b) (headerLength b) false
+-- an index that is passed is not due
+pub none-due : (b : List ℕ) (p : ℕ) → indexHere b p true ≡ false
+unfolding indexDue
+none-due b p = refl
 
-module _ {b : List ℕ} {n p : ℕ} {q : Bool} (g : Going b n p q) where
+module _ {b : List ℕ} {w : Answer} {n p : ℕ} {q : Bool} (g : Going b w n p q) where
   module _ (h : indexHere b p q ≡ true) where
-    pub going-index : passTest b p ≡ Accepted → Going b n (p + indexSize (indexLength b)) true
+    -- what the boundary past the index asks
+    pub stop-past : (a : Answer) (x : ℕ) → passTest b p ≡ Accepted → x ≡ p + indexSize (indexLength b) → a ≡ boundaryTest b n x true → a ≡ w
     unfolding _then_
-    going-index a = record { head = g .head; fits = pass-fits b p a; is = g .is ∙ boundary-index b p q h n ∙ rw a }
+    stop-past a x t e r = r ∙ ap (λ (i : ℕ). boundaryTest b n i true) e ∙ sym (g .is ∙ boundary-index b p q h n ∙ rw t)
 
-    pub stop-index : (a : Answer) (k z : ℕ) → a ≡ passTest b p → a ≡ Refused k z → Whole b a
+    pub stop-index : (a : Answer) (k z : ℕ) → a ≡ passTest b p → a ≡ Refused k z → a ≡ w
     unfolding _then_
     stop-index a k z e r = sym (g .is ∙ boundary-index b p q h n ∙ rw (← e, r))
 
   module _ (h : indexHere b p q ≡ false) where
-    pub stop-end : (a : Answer) → n ≡ 0 → a ≡ endTest b p q → Whole b a
+    pub stop-end : (a : Answer) → n ≡ 0 → a ≡ endTest b p q → a ≡ w
     stop-end a z e = sym (g .is ∙ ap (λ (m : ℕ). boundaryTest b m p q) z ∙ boundary-end b p q h ∙ sym e)
 
     -- F is the file's number of flows
     module _ (F : ℕ) (f : F ≡ flows b) where
-      pub going-read : (x : ℕ) → 0 < n → readTest (part 31 F b) b p ≡ Accepted → x ≡ readEnd F b p → Going b (n - 1) x q
+      pub going-read : (x : ℕ) → 0 < n → readTest (part 31 F b) b p ≡ Accepted → x ≡ readEnd F b p → Going b w (n - 1) x q
       unfolding _then_
       going-read x s a e =
           let m : n ≡ suc (n - 1) = omega arith in
@@ -86,7 +72,7 @@ module _ {b : List ℕ} {n p : ℕ} {q : Bool} (g : Going b n p q) where
             is = g .is ∙ ap (λ (k : ℕ). boundaryTest b k p q) m ∙ boundary-read b p q h (n - 1) ∙ rw (r, y);
           }
 
-      pub stop-read : (a : Answer) (k z : ℕ) → 0 < n → a ≡ readTest (part 31 F b) b p → a ≡ Refused k z → Whole b a
+      pub stop-read : (a : Answer) (k z : ℕ) → 0 < n → a ≡ readTest (part 31 F b) b p → a ≡ Refused k z → a ≡ w
       unfolding _then_
       stop-read a k z s e r =
           let m : n ≡ suc (n - 1) = omega arith in

@@ -1,6 +1,8 @@
 // The whole-file test. It only reads the lent file.
 ghost use mathlib.Core.Path.{_≡_};
-ghost use mathlib.Core.Bool.{false};
+ghost use mathlib.Core.Bool.{true, false};
+ghost use Prim.Native.Nat.{_≤_};
+ghost use lib.ListN.{length};
 ghost use Rattle.answers.specs.declared.Answer.the-variants.{Accepted};
 ghost use Rattle.sff_format.specs.HeaderTest.{headerTest, readCount, headerLength};
 ghost use Rattle.sff_format.specs.FileTest.{boundaryTest, fileTest};
@@ -19,7 +21,32 @@ use sff_header::inner::index_size;
 use sff_read::inner::read_end;
 use sff_read::inner::read_test;
 
-// What the boundaries ask, from the header's end on: one turn passes an index, or a read, or is the end.
+// What the boundaries ask from `from` on, with n reads that remain and no index that is still to be passed: one turn passes a read, or is the end.
+fn reads_test(s: &[u8], header: Header, from: usize, n: usize) -> Answer
+    requires { ⌜ headerTest (now s) ≡ Accepted ⌝ }
+    requires { ⌜ header ≡ headerOf (now s) ⌝ }
+    requires { ⌜ Small header ⌝ }
+    requires { ⌜ from ≤ length (now s) ⌝ }
+    ensures { λ r. ⌜ r ≡ boundaryTest (now (s .entry)) n from true ⌝ }
+{
+    let flows = header.flows;
+    let mut left = n;
+    let mut place = from;
+    loop {
+        if left == 0 {
+            break end_test(s, header, place, true);
+        }
+        let tested = read_test(s, place, flows);
+        let Answer::Accepted = tested else {
+            break tested;
+        };
+        place = read_end(s, place, flows);
+        left -= 1;
+    }
+}
+
+// What the boundaries ask from the header's end on, up to the index. Past it the loop above goes on: with a loop for each, `read_test` stays a function of its
+// own, and the walk over a read's bases keeps all it needs in registers.
 fn sections_test(s: &[u8], header: Header) -> Answer
     requires { ⌜ headerTest (now s) ≡ Accepted ⌝ }
     requires { ⌜ header ≡ headerOf (now s) ⌝ }
@@ -29,26 +56,23 @@ fn sections_test(s: &[u8], header: Header) -> Answer
     let flows = header.flows;
     let mut left = header.reads;
     let mut place = header.length;
-    let mut passed = false;
     loop {
-        if index_due(header, place, passed) {
+        if index_due(header, place, false) {
             let index = pass_test(s, header, place);
             let Answer::Accepted = index else {
                 break index;
             };
-            place += index_size(header.index_length);
-            passed = true;
-        } else {
-            if left == 0 {
-                break end_test(s, header, place, passed);
-            }
-            let read = read_test(s, place, flows);
-            let Answer::Accepted = read else {
-                break read;
-            };
-            place = read_end(s, place, flows);
-            left -= 1;
+            break reads_test(s, header, place + index_size(header.index_length), left);
         }
+        if left == 0 {
+            break end_test(s, header, place, false);
+        }
+        let read = read_test(s, place, flows);
+        let Answer::Accepted = read else {
+            break read;
+        };
+        place = read_end(s, place, flows);
+        left -= 1;
     }
 }
 

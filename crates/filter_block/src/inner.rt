@@ -10,7 +10,7 @@ ghost use Rattle.filter_format.specs.Block.{filterOf, Known, filterAt, isRaw, i
 ghost use Rattle.filter_block.specs.Tests.{dataTest, Opens};
 ghost use Rattle.octets.specs.Parts.{putAt};
 use answers::Answer;
-use buffers::copy;
+use buffers::inner::copy;
 use filter_delta::inner::put_undone;
 use filter_follow::inner::put_unfollowed;
 use filter_format::Filter;

@@ -5,7 +5,7 @@ ghost use lib.ListN.{length};
 ghost use Rattle.octets.specs.Parts.{putAt};
 ghost use Rattle.filter_format.specs.Units.{IsWidth};
 ghost use Rattle.filter_format.specs.Delta.{deltaBytes, undeltaBytes, OneLevelLess};
-use buffers::copy;
+use buffers::inner::copy;
 use filter_units::inner::get_unit;
 use filter_units::inner::put_unit;
 

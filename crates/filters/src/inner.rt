@@ -11,9 +11,9 @@ ghost use Rattle.filter_format.specs.Undo.{filtered, refusing, making, secondAf
 ghost use Rattle.filter_block.specs.Tests.{Opens};
 ghost use Rattle.filters.specs.Sides.{Undid};
 use answers::Answer;
-use buffers::copy;
-use buffers::fill;
-use buffers::move_down;
+use buffers::inner::copy;
+use buffers::inner::fill;
+use buffers::inner::move_down;
 use filter_block::inner::contents_test;
 use filter_block::inner::filter_at;
 use filter_block::inner::is_filter;

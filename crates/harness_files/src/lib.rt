@@ -10,7 +10,7 @@ ghost use Rattle.sff_signal.specs.Signal.{fileSignal};
 ghost use Rattle.harness_files.specs.Outs.{stateFrom, flag, viewClips, SmallClips, steppedWith, steppedOf, putFront, clipsFrom};
 use answers::number_of;
 use answers::place_of;
-use buffers::copy;
+use buffers::inner::copy;
 use octets::wide;
 use sff_find::position_test;
 use sff_format::Clips;

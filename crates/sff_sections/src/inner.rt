@@ -7,12 +7,12 @@ ghost use Rattle.octets.specs.Numbers.{fields};
 ghost use Rattle.sff_format.specs.Model.{layoutRead, layout};
 ghost use Rattle.sff_format.specs.Writing.{newFile, readOf};
 ghost use Rattle.sff_sections.specs.Sections.{clipFields, sectionFields, headerSection, dataSection, startFields, lengthFields};
-use buffers::copy;
-use buffers::fill;
-use buffers::put_words;
-use buffers::put16;
-use buffers::put32;
-use buffers::put64;
+use buffers::inner::copy;
+use buffers::inner::fill;
+use buffers::inner::put_words;
+use buffers::inner::put16;
+use buffers::inner::put32;
+use buffers::inner::put64;
 use octets::up8;
 use sff_format::Clips;
 

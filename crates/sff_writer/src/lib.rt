@@ -6,7 +6,7 @@ ghost use Rattle.answers.specs.Answer.{own};
 ghost use Rattle.sff_format.specs.ReadTest.{clipTest};
 ghost use Rattle.sff_format.specs.Writing.{newTest, newOutcome, newBuffer, readOf, badCounts, givenTest, openTest, appendTest, appendOutcome, appendBuffer};
 use answers::Answer;
-use buffers::put32;
+use buffers::inner::put32;
 use octets::ByteTest;
 use octets::fails;
 use octets::get32;

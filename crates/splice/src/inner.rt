@@ -4,10 +4,10 @@ ghost use Prim.Native.Nat.{_+_, _-_, _≤_};
 ghost use mathlib.Core.List.{[], _++_};
 ghost use lib.ListN.{length, replicate};
 ghost use Rattle.octets.specs.Parts.{part, putAt, spliced};
-use buffers::copy;
-use buffers::fill;
-use buffers::move_down;
-use buffers::move_up;
+use buffers::inner::copy;
+use buffers::inner::fill;
+use buffers::inner::move_down;
+use buffers::inner::move_up;
 
 // Moves what stands after the n bytes at `at`, up to `end`, so that `size` bytes fit there, and zeroes what is freed.
 // A tail that stays where it is is not moved at all: each of its bytes would be written onto itself.

@@ -50,7 +50,7 @@ pub fn put_bytes(out: &mut [u8], at: usize, source: &[u8]) -> usize
     ensures { λ r. ⌜ Wrote at (now (source .entry)) (now (out .entry)) (now (out .exit)) r ⌝ }
 {
     let n = source.len();
-    buffers::copy(out, at, source, 0, n);
+    buffers::inner::copy(out, at, source, 0, n);
     at + n
 }
 

@@ -2,8 +2,8 @@ use Prim.Native.Nat.{_-_}
 use native.Mathlib.Omega.{arith}
 use lib.ListN.{length, length-set}
 use Rattle.octets.proofs.Worded.{Worded, wording}
-use Rattle.buffers.proofs.put_words.Statement.{statement}
-use Rattle.buffers.proofs.put_words.Tie as tie
+use Rattle.buffers.proofs.inner.put_words.Statement.{statement}
+use Rattle.buffers.proofs.inner.put_words.Tie as tie
 
 abbrev Inv-loop : tie.InvT-loop
 Inv-loop s₀ at values n j₀ s j = Worded at values s₀ s j

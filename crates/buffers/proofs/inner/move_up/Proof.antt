@@ -3,8 +3,8 @@ use borrow.Author.Needs.{needs}
 use Rattle.octets.specs.Parts.{part}
 use Rattle.octets.proofs.Moves.{Down, down-start, down-block, down-last, moves}
 use Rattle.octets.proofs.Lists.{length-part}
-use Rattle.buffers.proofs.move_up.Statement.{statement}
-use Rattle.buffers.proofs.move_up.Tie as tie
+use Rattle.buffers.proofs.inner.move_up.Statement.{statement}
+use Rattle.buffers.proofs.inner.move_up.Tie as tie
 
 abbrev Inv-loop : tie.InvT-loop
 Inv-loop s₀ from to n j₀ s j = Down to n (part from n s₀) s₀ s j

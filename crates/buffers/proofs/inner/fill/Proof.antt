@@ -2,8 +2,8 @@ use Prim.Native.Nat.{_-_}
 use native.Mathlib.Omega.{arith}
 use lib.ListN.{replicate, length-replicate}
 use Rattle.octets.proofs.Moves.{Up, up-start, moves}
-use Rattle.buffers.proofs.fill.Statement.{statement}
-use Rattle.buffers.proofs.fill.Tie as tie
+use Rattle.buffers.proofs.inner.fill.Statement.{statement}
+use Rattle.buffers.proofs.inner.fill.Tie as tie
 
 abbrev Inv-loop : tie.InvT-loop
 Inv-loop s₀ from to v n j₀ s j = Up from n (replicate n v) s₀ s j

@@ -3,8 +3,8 @@ use Prim.Native.Nat.{ℕ}
 use lib.ListN.{replicate, length-replicate}
 use borrow.Author.Needs.{needs}
 use Rattle.octets.proofs.Moves.{moved-through}
-use Rattle.buffers.proofs.move_block.Statement.{statement}
-use Rattle.buffers.proofs.move_block.Tie as tie
+use Rattle.buffers.proofs.inner.move_block.Statement.{statement}
+use Rattle.buffers.proofs.inner.move_block.Tie as tie
 
 pub move-block-spec : {M : Type 1} → statement M
 move-block-spec =

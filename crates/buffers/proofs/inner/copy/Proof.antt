@@ -1,8 +1,8 @@
 use Prim.Native.Nat.{_-_}
 use Rattle.octets.specs.Parts.{part}
 use Rattle.octets.proofs.Moves.{Up, moves}
-use Rattle.buffers.proofs.copy.Statement.{statement}
-use Rattle.buffers.proofs.copy.Tie as tie
+use Rattle.buffers.proofs.inner.copy.Statement.{statement}
+use Rattle.buffers.proofs.inner.copy.Tie as tie
 
 abbrev Inv-loop : tie.InvT-loop
 Inv-loop s₀ at source from n j₀ s j = Up at n (part from n source) s₀ s j

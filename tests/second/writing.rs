@@ -4,7 +4,7 @@
 #![allow(dead_code)]
 
 use crate::sff::{
-    flow_walk, is_flow_character, is_name_byte, refuse, test_file, up8, wrong_base, Refusal,
+    flow_walk, is_flow_character, is_name_byte, refuse, up8, walk_file, wrong_base, Refusal,
     Section,
 };
 
@@ -114,15 +114,15 @@ pub fn append(buffer: &mut [u8], file_length: u64, read: &NewRead) -> Written {
     }
 }
 
-/// The tests in order, and else the new count and the new sections. No test reaches 31, since a file
-/// of so many reads has at least 64 GiB.
+/// The tests in order, and else the new count and the new sections. The file's reads are not kept, since
+/// 31 asks for 4,294,967,295 of them.
 fn test_append(buffer: &[u8], file_length: u64, read: &NewRead) -> Result<(u64, Vec<u8>), Refusal> {
     // "14 length stated above the buffer"
     if file_length > buffer.len() as u64 {
         return refuse_input(14);
     }
     // "the file's own refusal"
-    let header = test_file(&buffer[..file_length as usize])?.header;
+    let (header, _) = walk_file(&buffer[..file_length as usize], |_| {})?;
     // "25 an index is present"
     if header.has_index() {
         return refuse_input(25);

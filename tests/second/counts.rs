@@ -102,6 +102,13 @@ pub fn listed(input: &[u8]) -> String {
     name(sff::test_file(input).err())
 }
 
+/// How often each number occurred in all calls of a program; the script `run` sums these lines.
+pub fn line_of_numbers(numbers: &BTreeMap<u64, u64>) -> String {
+    let each = numbers.iter();
+    let each = each.map(|(number, count)| format!("{number}: {count}"));
+    format!("numbers: {}", each.collect::<Vec<_>>().join(", "))
+}
+
 /// How often each answer occurred.
 pub struct Counts {
     counts: Vec<(&'static str, u64)>,

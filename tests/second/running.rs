@@ -2,7 +2,7 @@
 //! how often each answer occurred.
 
 use crate::comparing::{differ, Difference, Outcome};
-use crate::counts::Counts;
+use crate::counts::{self, Counts};
 use std::collections::BTreeMap;
 use std::panic::{catch_unwind, AssertUnwindSafe};
 use std::process::exit;
@@ -115,7 +115,7 @@ fn occurred<C: Comparison>(comparison: &mut C) -> Result<(), String> {
         println!("{what}: {}", counts.line());
         missing.extend(never(what, counts));
     }
-    print_numbers(&numbers);
+    println!("{}", counts::line_of_numbers(&numbers));
     if !missing.is_empty() {
         return Err(format!("never occurred: {}", missing.join(", ")));
     }
@@ -125,13 +125,4 @@ fn occurred<C: Comparison>(comparison: &mut C) -> Result<(), String> {
 fn never(call: &str, counts: &Counts) -> Vec<String> {
     let never = counts.below(1).into_iter();
     never.map(|answer| format!("{call} {answer}")).collect()
-}
-
-/// How often each number occurred in all calls; the script `run` sums these lines.
-pub fn print_numbers(numbers: &BTreeMap<u64, u64>) {
-    let each = numbers.iter();
-    let each: Vec<String> = each
-        .map(|(number, count)| format!("{number}: {count}"))
-        .collect();
-    println!("numbers: {}", each.join(", "));
 }

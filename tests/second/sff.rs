@@ -97,7 +97,7 @@ impl Header<'_> {
 }
 
 /// "Header: 1 (under 31 bytes), 2, 3, 4, 5, 1 (under header length), 6, 7, 8."
-fn test_header(file: &[u8]) -> Result<Header<'_>, Refusal> {
+pub fn test_header(file: &[u8]) -> Result<Header<'_>, Refusal> {
     // 1: "section runs past the end", place "its start"
     if file.len() < 31 {
         return refuse(1, 0, Section::Header);

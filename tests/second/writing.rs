@@ -4,8 +4,8 @@
 #![allow(dead_code)]
 
 use crate::sff::{
-    flow_walk, is_flow_character, is_name_byte, refuse, up8, walk_file, wrong_base, Refusal,
-    Section,
+    flow_walk, is_flow_character, is_name_byte, refuse, up8, walk_file, wrong_base, Header,
+    Refusal, Section,
 };
 
 /// What a writer answers: "A writer or corrector also answers the file's length afterwards".
@@ -123,6 +123,16 @@ fn test_append(buffer: &[u8], file_length: u64, read: &NewRead) -> Result<(u64, 
     }
     // "the file's own refusal"
     let (header, _) = walk_file(&buffer[..file_length as usize], |_| {})?;
+    test_read(&header, buffer.len() as u64, file_length, read)
+}
+
+/// The tests that come after the file's own refusal.
+pub fn test_read(
+    header: &Header,
+    room: u64,
+    file_length: u64,
+    read: &NewRead,
+) -> Result<(u64, Vec<u8>), Refusal> {
     // "25 an index is present"
     if header.has_index() {
         return refuse_input(25);
@@ -158,7 +168,7 @@ fn test_append(buffer: &[u8], file_length: u64, read: &NewRead) -> Result<(u64, 
     }
     // "26 new length above the buffer"
     let sections = sections(read);
-    if file_length + sections.len() as u64 > buffer.len() as u64 {
+    if file_length + sections.len() as u64 > room {
         return refuse_input(26);
     }
     Ok((header.reads + 1, sections))

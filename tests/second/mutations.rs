@@ -30,7 +30,7 @@ fn entries(list: &str) -> Result<Vec<Mutation>, String> {
     for entry in list.split("\n\n") {
         let lines: Vec<&str> = entry
             .lines()
-            .filter(|line| !line.starts_with('#'))
+            .filter(|line| !line.is_empty() && !line.starts_with('#'))
             .collect();
         let Some((title, fields)) = lines.split_first() else {
             continue;

@@ -95,17 +95,24 @@ fn many_bases() -> Outcome {
         return differ("no address space for 4,294,967,296 bytes".to_string(), &[]);
     }
     let mut file = vec![0; 32];
-    let written = writing::new_file(&mut file, b"", b"");
+    let length = writing::new_file(&mut file, b"", b"").length;
     for (count, number) in [(MOST, 10), (MOST + 1, 30)] {
-        let mut buffer = Lent::new(&file, 9, 8);
-        let made = Made {
-            number,
-            place: 0,
-            length: written.length,
+        let zeros = unsafe { std::slice::from_raw_parts(lists, count) };
+        let read = NewRead {
+            name: b"",
+            clips: [0; 4],
+            values: &[],
+            increments: zeros,
+            bases: zeros,
+            qualities: zeros,
         };
-        let library = exports::append_many(&mut buffer, written.length, lists, count);
-        same(&format!("append of {count} bases"), library, made, &[])?;
-        holds("append of many bases", &buffer, &file, &[])?;
+        let call = format!("append of {count} bases");
+        let second = Made::of(writing::append(&mut file.clone(), length, &read));
+        same(&call, second.number, number, &[])?;
+        let mut buffer = Lent::new(&file, 9, 8);
+        let library = exports::append_many(&mut buffer, length, lists, count);
+        same(&call, library, second, &[])?;
+        holds(&call, &buffer, &file, &[])?;
     }
     Ok(())
 }

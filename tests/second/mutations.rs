@@ -48,11 +48,7 @@ fn entries(list: &str) -> Result<Vec<Mutation>, String> {
                 "{title}: no file, old and new text, or something else"
             ));
         }
-        let of_filters = if file == "filters.rs" {
-            PROGRAMS[1]
-        } else {
-            PROGRAMS[0]
-        };
+        let of_filters = PROGRAMS[usize::from(file.starts_with("filter"))];
         let with = if with.is_empty() {
             of_filters.to_string()
         } else {
@@ -196,12 +192,13 @@ fn indented(text: &str, indentation: &str) -> String {
 
 /// A difference that was told, and at which case.
 fn noticed(status: Option<i32>, told: &str, seed: &str) -> Option<String> {
-    if status != Some(1) || told.contains("panicked") {
+    let beside = "the library wrote beside a number that it was lent";
+    let has_stopped = told.contains("panicked") && !told.contains(beside);
+    if status != Some(1) || has_stopped {
         return None;
     }
-    let first = told
-        .lines()
-        .find(|line| line.contains(": ") || line.starts_with("append"))?;
+    let is_told = |line: &&str| line.starts_with("case ") || line.starts_with("append");
+    let first = told.lines().find(is_told)?;
     let Some(case) = first.strip_prefix("case ") else {
         let is_fixed = first.starts_with("append to very many reads");
         return is_fixed.then(|| format!("{:>6}         {first}", "fixed"));

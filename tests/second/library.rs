@@ -170,6 +170,7 @@ fn step(
 /// How often each answer of each call occurred.
 struct Comparison {
     tests: Tests,
+    fresh: Counts,
     step: Counts,
     forged_step: Counts,
     insert: Counts,
@@ -184,6 +185,7 @@ impl running::Comparison for Comparison {
     fn new() -> Comparison {
         Comparison {
             tests: Tests::new(),
+            fresh: Counts::new(false, &["0 at the header's end", "0 at the front"]),
             step: Counts::new(true, &["33"]),
             // 1 alone: the state's place is beyond the file.
             forged_step: Counts::new(true, &["1", "33"]),
@@ -199,6 +201,7 @@ impl running::Comparison for Comparison {
     fn answers(&mut self) -> Vec<(&'static str, &mut Counts)> {
         vec![
             ("test", &mut self.tests.answers),
+            ("fresh", &mut self.fresh),
             ("step", &mut self.step),
             ("step, forged state", &mut self.forged_step),
             ("insert", &mut self.insert),
@@ -270,6 +273,10 @@ impl Comparison {
             (0, state(reader)),
             &[("file", file)],
         )?;
+        self.fresh.add(match sff::test_header(file) {
+            Ok(_) => "0 at the header's end",
+            Err(_) => "0 at the front",
+        });
         let mut met = vec![reader];
         while let Some(next) = step(file, lent, reader, &mut self.step)? {
             reader = next;

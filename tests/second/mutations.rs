@@ -95,13 +95,20 @@ impl Work {
         Ok(folder)
     }
 
-    /// Compiles a program of the copy and runs it: its exit status, and what it told.
-    fn run(&self, folder: &Path, program: &str) -> Result<(Option<i32>, String), String> {
+    /// Compiles a program of the copy and runs it: its exit status, and what it told. Few cases are run
+    /// sooner than the compiler could make them fast.
+    fn run(
+        &self,
+        folder: &Path,
+        program: &str,
+        has_few_cases: bool,
+    ) -> Result<(Option<i32>, String), String> {
+        let level = format!("opt-level={}", if has_few_cases { 0 } else { 1 });
         let path = folder.join("program");
         let compiled = Command::new(&self.compiler)
             .args([
                 "-C",
-                "opt-level=1",
+                &level,
                 "-C",
                 "overflow-checks=on",
                 "--edition",
@@ -137,7 +144,7 @@ impl Work {
     fn unbroken(&self) -> Result<(), String> {
         for program in PROGRAMS {
             let folder = self.copy("unbroken")?;
-            let (status, told) = self.run(&folder, program)?;
+            let (status, told) = self.run(&folder, program, false)?;
             if status != Some(0) {
                 return Err(format!(
                     "{program}, unbroken, ended with {status:?}\n{told}"
@@ -172,7 +179,7 @@ impl Work {
         }
         let broken = source.replace(&old, &new);
         std::fs::write(&path, broken).map_err(|error| error.to_string())?;
-        let (status, told) = self.run(&folder, &mutation.with)?;
+        let (status, told) = self.run(&folder, &mutation.with, true)?;
         std::fs::remove_dir_all(&folder).map_err(|error| error.to_string())?;
         Ok(noticed(status, &told, &self.seed))
     }
@@ -192,9 +199,7 @@ fn indented(text: &str, indentation: &str) -> String {
 
 /// A difference that was told, and at which case.
 fn noticed(status: Option<i32>, told: &str, seed: &str) -> Option<String> {
-    let beside = "the library wrote beside a number that it was lent";
-    let has_stopped = told.contains("panicked") && !told.contains(beside);
-    if status != Some(1) || has_stopped {
+    if status != Some(1) {
         return None;
     }
     let is_told = |line: &&str| line.starts_with("case ") || line.starts_with("append");
@@ -205,6 +210,11 @@ fn noticed(status: Option<i32>, told: &str, seed: &str) -> Option<String> {
     };
     let (number, call) = case.split_once(&format!(" of seed {seed}: "))?;
     let number: u64 = number.parse().ok()?;
+    // A second program that stops has shown no difference; that the library wrote beside a number is one.
+    let beside = "the library wrote beside a number that it was lent";
+    if call.starts_with("it stopped") && !told.contains(beside) {
+        return None;
+    }
     Some(format!("{:>6} cases   {call}", number + 1))
 }
 

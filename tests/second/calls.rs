@@ -218,7 +218,7 @@ pub fn set_somewhere<T: Copy>(random: &mut Random, list: &mut [T], value: T) {
     }
 }
 
-// Appends. No file of a size to test has 4,294,967,295 reads, so that 31 does not occur. A read of more
+// Appends. 31 does not occur here: it takes a file of 4,294,967,295 reads (`many_reads`). A read of more
 // bases than that stands among the fixed cases of the comparison with the library.
 
 pub struct AppendCall {

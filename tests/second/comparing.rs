@@ -1,6 +1,8 @@
 //! What a comparison of the library with the second implementation needs: lent memory, equal answers,
 //! and what is told where two differ.
 
+#![allow(dead_code)]
+
 use crate::inputs::{self, Random};
 use crate::lent::Lent;
 use std::fmt::Debug;
@@ -59,8 +61,19 @@ pub fn same<T: Debug + PartialEq>(
     differ(message, given)
 }
 
-/// What was lent must hold this now.
+/// What was lent must hold just this now, and nothing around it may have changed.
 pub fn holds(
+    call: &str,
+    lent: &Lent<u8>,
+    second: &[u8],
+    given: &[(&'static str, &[u8])],
+) -> Outcome {
+    assert_eq!(lent.len(), second.len(), "{call}: the whole is compared");
+    begins(call, lent, second, given)
+}
+
+/// What was lent must begin with this now, and nothing around it may have changed.
+pub fn begins(
     call: &str,
     lent: &Lent<u8>,
     second: &[u8],

@@ -211,7 +211,7 @@ fn another_position(random: &mut Random, model: &Model, record: &mut Record) {
     record.position = random.pick(&[position.wrapping_add(1), position.wrapping_sub(1), any]);
 }
 
-/// 22: "r1 is not r10" (READINGS).
+/// 22: r1 is not r10.
 fn another_old_name(random: &mut Random, model: &Model, record: &mut Record) {
     let near = like(random, &record.old_name);
     let borne = borne(random, model);

@@ -3,6 +3,7 @@
 #![allow(dead_code)]
 
 use crate::sff::{self, Refusal, Section};
+use std::collections::BTreeMap;
 
 /// What the whole-file test can answer. A number that comes from several sections is told apart.
 pub const OF_A_FILE: [&str; 21] = [
@@ -29,8 +30,8 @@ pub const OF_A_FILE: [&str; 21] = [
     "13",
 ];
 
-/// What a new file can answer, and what an append can beside the file's answers. 31 is missing: no file
-/// of a size to test has 4,294,967,295 reads.
+/// What a new file can answer, and what an append can beside the file's answers. 31 is missing: it takes
+/// a file of its own (`many_reads`).
 pub const OF_NEW: [&str; 4] = ["0", "5 given", "6 given", "26"];
 pub const OF_APPEND: [&str; 9] = [
     "14", "25", "30", "5 given", "6 given", "9 given", "10 given", "11 given", "26",
@@ -101,6 +102,13 @@ pub fn listed(input: &[u8]) -> String {
     name(sff::test_file(input).err())
 }
 
+/// How often each number occurred in all calls of a program; the script `run` sums these lines.
+pub fn line_of_numbers(numbers: &BTreeMap<u64, u64>) -> String {
+    let each = numbers.iter();
+    let each = each.map(|(number, count)| format!("{number}: {count}"));
+    format!("numbers: {}", each.collect::<Vec<_>>().join(", "))
+}
+
 /// How often each answer occurred.
 pub struct Counts {
     counts: Vec<(&'static str, u64)>,
@@ -130,6 +138,23 @@ impl Counts {
         }
         if holds {
             self.add(name);
+        }
+    }
+
+    /// Puts the counts of another part of the cases to these.
+    pub fn put(&mut self, others: &Counts) {
+        for (name, count) in &others.counts {
+            self.note(false, name);
+            let known = self.counts.iter_mut().find(|(known, _)| known == name);
+            known.expect("noted").1 += count;
+        }
+    }
+
+    /// Puts how often each number occurred to `numbers`; the name of an answer begins with its number.
+    pub fn put_numbers(&self, numbers: &mut BTreeMap<u64, u64>) {
+        for (name, count) in &self.counts {
+            let number = name.split(' ').next().and_then(|word| word.parse().ok());
+            *numbers.entry(number.expect("a number")).or_insert(0) += count;
         }
     }
 

@@ -1,8 +1,9 @@
 //! The library's C exports, those of the crate `harness`, and what a call of each leaves.
 
-use crate::lent::Lent;
-use crate::sff::numbers;
-use crate::writing::Written;
+#![allow(dead_code)]
+
+use crate::lent::{Lent, Number};
+use crate::made::Made;
 
 #[rustfmt::skip]
 extern "C" {
@@ -39,30 +40,30 @@ extern "C" {
     ) -> u64;
 }
 
-/// What stands in an out parameter before the call: one that a call leaves alone shows.
-const UNSET: u64 = 0xA5C3_96E1_5A3C_691E;
-
 pub fn test(file: &Lent<u8>) -> (u64, u64) {
-    let mut place = UNSET;
-    let number = unsafe { h_test(file.pointer(), file.len(), &mut place) };
-    (number, place)
+    let mut place = Number::unset();
+    let number = unsafe { h_test(file.pointer(), file.len(), place.pointer()) };
+    (number, place.now())
 }
 
 /// A reader's state as numbers: byte place, reads passed, 1 if the index is passed.
 pub type State = [u64; 3];
 
 pub fn fresh(file: &Lent<u8>) -> (u64, State) {
-    let [mut at, mut passed, mut index_passed] = [UNSET; 3];
+    let [mut at, mut passed, mut index_passed] = [0; 3].map(|_| Number::unset());
     let answer = unsafe {
         h_fresh(
             file.pointer(),
             file.len(),
-            &mut at,
-            &mut passed,
-            &mut index_passed,
+            at.pointer(),
+            passed.pointer(),
+            index_passed.pointer(),
         )
     };
-    (answer, [at, passed, index_passed])
+    (
+        answer,
+        [at, passed, index_passed].map(|number| number.now()),
+    )
 }
 
 #[derive(Debug, PartialEq)]
@@ -77,30 +78,31 @@ pub struct Stepped {
 }
 
 pub fn step(file: &Lent<u8>, state: State) -> Stepped {
-    let [mut at, mut passed, mut index_passed] = state;
-    let [mut place, mut read_start, mut name_length, mut bases, mut clips] = [UNSET; 5];
+    let [mut at, mut passed, mut index_passed] = state.map(Number::set);
+    let [mut place, mut read_start, mut name_length, mut bases, mut clips] =
+        [0; 5].map(|_| Number::unset());
     let number = unsafe {
         h_step(
             file.pointer(),
             file.len(),
-            &mut at,
-            &mut passed,
-            &mut index_passed,
-            &mut place,
-            &mut read_start,
-            &mut name_length,
-            &mut bases,
-            &mut clips,
+            at.pointer(),
+            passed.pointer(),
+            index_passed.pointer(),
+            place.pointer(),
+            read_start.pointer(),
+            name_length.pointer(),
+            bases.pointer(),
+            clips.pointer(),
         )
     };
     Stepped {
         number,
-        place,
-        state: [at, passed, index_passed],
-        read_start,
-        name_length,
-        bases,
-        clips,
+        place: place.now(),
+        state: [at, passed, index_passed].map(|number| number.now()),
+        read_start: read_start.now(),
+        name_length: name_length.now(),
+        bases: bases.now(),
+        clips: clips.now(),
     }
 }
 
@@ -114,7 +116,7 @@ pub struct Inserted {
 }
 
 pub fn insert(file: &Lent<u8>, position: u64, out: &mut Lent<u8>) -> Inserted {
-    let [mut place, mut first, mut last, mut made] = [UNSET; 4];
+    let [mut place, mut first, mut last, mut made] = [0; 4].map(|_| Number::unset());
     let number = unsafe {
         h_insert(
             file.pointer(),
@@ -122,18 +124,18 @@ pub fn insert(file: &Lent<u8>, position: u64, out: &mut Lent<u8>) -> Inserted {
             position,
             out.pointer_to_write(),
             out.len(),
-            &mut place,
-            &mut first,
-            &mut last,
-            &mut made,
+            place.pointer(),
+            first.pointer(),
+            last.pointer(),
+            made.pointer(),
         )
     };
     Inserted {
         number,
-        place,
-        first,
-        last,
-        made,
+        place: place.now(),
+        first: first.now(),
+        last: last.now(),
+        made: made.now(),
     }
 }
 
@@ -148,60 +150,29 @@ pub struct Summed {
 }
 
 pub fn signal(file: &Lent<u8>, position: u64) -> Summed {
-    let [mut strongest, mut weakest, mut mean] = [f64::from_bits(UNSET); 3];
-    let mut place = UNSET;
+    let [mut strongest, mut weakest, mut mean, mut place] = [0; 4].map(|_| Number::unset());
     let number = unsafe {
         h_signal(
             file.pointer(),
             file.len(),
             position,
-            &mut strongest,
-            &mut weakest,
-            &mut mean,
-            &mut place,
+            strongest.float_pointer(),
+            weakest.float_pointer(),
+            mean.float_pointer(),
+            place.pointer(),
         )
     };
     Summed {
         number,
-        place,
-        strongest: strongest.to_bits(),
-        weakest: weakest.to_bits(),
-        mean: mean.to_bits(),
-    }
-}
-
-#[derive(Debug, PartialEq)]
-pub struct Made {
-    pub number: u64,
-    pub place: u64,
-    pub length: u64,
-}
-
-impl Made {
-    /// What a writer or a corrector of the second program left, as the library says it.
-    pub fn of(written: Written) -> Made {
-        let (number, place) = numbers(written.refusal);
-        Made {
-            number,
-            place,
-            length: written.length,
-        }
-    }
-}
-
-/// A writer's or a corrector's call, given where place and length go.
-fn made(call: impl FnOnce(&mut u64, &mut u64) -> u64) -> Made {
-    let [mut place, mut length] = [UNSET; 2];
-    let number = call(&mut place, &mut length);
-    Made {
-        number,
-        place,
-        length,
+        place: place.now(),
+        strongest: strongest.now(),
+        weakest: weakest.now(),
+        mean: mean.now(),
     }
 }
 
 pub fn new(buffer: &mut Lent<u8>, flows: &Lent<u8>, key: &Lent<u8>) -> Made {
-    made(|place, length| unsafe {
+    Made::by(|place, length| unsafe {
         h_new(
             buffer.pointer_to_write(),
             buffer.len(),
@@ -234,10 +205,15 @@ impl LentRead {
 }
 
 pub fn append(buffer: &mut Lent<u8>, file_length: u64, read: &LentRead) -> Made {
-    made(|place, length| unsafe {
+    append_at(buffer.pointer_to_write(), buffer.len(), file_length, read)
+}
+
+/// An append to what stands in the `room` bytes from `buffer` on.
+pub fn append_at(buffer: *mut u8, room: usize, file_length: u64, read: &LentRead) -> Made {
+    Made::by(|place, length| unsafe {
         h_append(
-            buffer.pointer_to_write(),
-            buffer.len(),
+            buffer,
+            room,
             file_length,
             read.name.pointer(),
             read.name.len(),
@@ -265,7 +241,7 @@ pub fn append_many(
     count: usize,
 ) -> Made {
     let (to, room, none) = (buffer.pointer_to_write(), buffer.len(), [0_u16]);
-    made(|place, length| unsafe {
+    Made::by(|place, length| unsafe {
         h_append(
             to,
             room,
@@ -288,7 +264,7 @@ pub fn append_many(
 }
 
 pub fn correct(buffer: &mut Lent<u8>, file_length: u64, record: &Lent<u8>) -> Made {
-    made(|place, length| unsafe {
+    Made::by(|place, length| unsafe {
         h_correct(
             buffer.pointer_to_write(),
             buffer.len(),
@@ -309,18 +285,21 @@ pub struct MadeByList {
 }
 
 pub fn correct_list(buffer: &mut Lent<u8>, file_length: u64, list: &Lent<u8>) -> MadeByList {
-    let mut count = UNSET;
-    let last = made(|place, length| unsafe {
+    let mut count = Number::unset();
+    let last = Made::by(|place, length| unsafe {
         h_correct_list(
             buffer.pointer_to_write(),
             buffer.len(),
             file_length,
             list.pointer(),
             list.len(),
-            &mut count,
+            count.pointer(),
             place,
             length,
         )
     });
-    MadeByList { count, last }
+    MadeByList {
+        count: count.now(),
+        last,
+    }
 }

@@ -1,6 +1,6 @@
 //! The library's C exports of the filters, and what a call of each answers.
 
-use crate::lent::Lent;
+use crate::lent::{Lent, Number};
 
 #[rustfmt::skip]
 extern "C" {
@@ -19,15 +19,11 @@ extern "C" {
     ) -> u64;
 }
 
-/// What stands in an out parameter before the call: one that a call leaves alone shows.
-const UNSET: u64 = 0xA5C3_96E1_5A3C_691E;
-
 /// Number, and bytes made.
 pub type Answer = (u64, u64);
 
 /// Both calls that undo take a block and two buffers.
-type Undo =
-    unsafe extern "C" fn(*const u8, usize, *mut u8, usize, *mut u8, usize, *mut u64) -> u64;
+type Undo = unsafe extern "C" fn(*const u8, usize, *mut u8, usize, *mut u8, usize, *mut u64) -> u64;
 
 pub fn undo(block: &Lent<u8>, first: &mut Lent<u8>, second: &mut Lent<u8>) -> Answer {
     undo_by(h_undo, block, first, second)
@@ -38,7 +34,7 @@ pub fn undo_layer(block: &Lent<u8>, first: &mut Lent<u8>, second: &mut Lent<u8>)
 }
 
 fn undo_by(call: Undo, block: &Lent<u8>, first: &mut Lent<u8>, second: &mut Lent<u8>) -> Answer {
-    let mut made = UNSET;
+    let mut made = Number::unset();
     let number = unsafe {
         call(
             block.pointer(),
@@ -47,10 +43,10 @@ fn undo_by(call: Undo, block: &Lent<u8>, first: &mut Lent<u8>, second: &mut Lent
             first.len(),
             second.pointer_to_write(),
             second.len(),
-            &mut made,
+            made.pointer(),
         )
     };
-    (number, made)
+    (number, made.now())
 }
 
 pub fn encode(
@@ -60,7 +56,7 @@ pub fn encode(
     data: &Lent<u8>,
     out: &mut Lent<u8>,
 ) -> Answer {
-    let mut made = UNSET;
+    let mut made = Number::unset();
     let number = unsafe {
         h_encode(
             format,
@@ -71,15 +67,15 @@ pub fn encode(
             data.len(),
             out.pointer_to_write(),
             out.len(),
-            &mut made,
+            made.pointer(),
         )
     };
-    (number, made)
+    (number, made.now())
 }
 
 /// `undo` is 0 to encode; any other number undoes.
 pub fn scf(precision: u64, undo: u64, data: &Lent<u8>, out: &mut Lent<u8>) -> Answer {
-    let mut made = UNSET;
+    let mut made = Number::unset();
     let number = unsafe {
         h_scf(
             precision,
@@ -88,8 +84,8 @@ pub fn scf(precision: u64, undo: u64, data: &Lent<u8>, out: &mut Lent<u8>) -> An
             data.len(),
             out.pointer_to_write(),
             out.len(),
-            &mut made,
+            made.pointer(),
         )
     };
-    (number, made)
+    (number, made.now())
 }

@@ -375,6 +375,8 @@ pub struct UndoCall {
     pub second: Vec<u8>,
     /// What comes out of it, where nothing was spoiled and there is room.
     pub data: Option<Vec<u8>>,
+    /// How many layers it was given.
+    pub layers: usize,
 }
 
 fn depth(random: &mut Random) -> usize {
@@ -452,6 +454,7 @@ pub fn undo_call(seed: u64, number: u64) -> UndoCall {
         first,
         second,
         data: (nest.is_right && fits).then_some(data),
+        layers: depth,
     }
 }
 
@@ -503,6 +506,7 @@ pub fn layer_call(seed: u64, number: u64) -> UndoCall {
         first,
         second,
         data: is_right.then_some(inside),
+        layers: 1,
     }
 }
 

@@ -4,7 +4,7 @@
 //!
 //! A case is a block to undo, data to encode and, in turns, a single layer to undo and SCF samples. What
 //! is encoded is undone again, and what a single layer gives is encoded again.
-//! The comparison ends with 1 at the first difference, and also if an answer never occurred (a run
+//! The comparison ends with 1 at the first difference, and with 3 if an answer never occurred (a run
 //! needs some thousands of cases for that).
 
 mod comparing;
@@ -25,14 +25,7 @@ use filters::{numbers, Made};
 use lent::Lent;
 
 fn main() {
-    running::run("second-filters", compare);
-}
-
-fn compare(seed: u64, count: u64, first: u64) -> Result<(), String> {
-    marked().map_err(|difference| difference.message)?;
-    let mut comparison = Comparison::new();
-    running::cases(seed, count, first, |seed, number| comparison.case(seed, number))?;
-    running::occurred(&comparison.all())
+    running::run::<Comparison>("second-filters", marked);
 }
 
 /// Document 01's marked cases, each encoded and undone: format, level, data, block.
@@ -104,18 +97,22 @@ fn undone(
     Ok((made, first))
 }
 
-/// How often each answer of each call occurred, and each format in a round.
+/// How often each answer of each call occurred, each number of layers and each format in a round.
 struct Comparison {
     undo: Counts,
     layer: Counts,
     encode: Counts,
     scf_encode: Counts,
     scf_undo: Counts,
+    layers: Counts,
+    layers_undone: Counts,
     encoded_undone: Counts,
     undone_encoded: Counts,
 }
 
-impl Comparison {
+const LAYERS: [&str; 11] = ["0", "1", "2", "3", "4", "5", "6", "7", "8", "9", "10"];
+
+impl running::Comparison for Comparison {
     fn new() -> Comparison {
         let scf = ["0", "42", "43", "26"];
         // A single layer is never a ninth filter.
@@ -126,20 +123,30 @@ impl Comparison {
             encode: Counts::new(false, &["0", "41", "42", "43", "26"]),
             scf_encode: Counts::new(false, &scf),
             scf_undo: Counts::new(false, &scf),
+            layers: Counts::new(false, &LAYERS),
+            // "eight at most"
+            layers_undone: Counts::new(false, &LAYERS[..=8]),
             encoded_undone: Counts::new(false, &["64", "65", "66", "70", "71", "72"]),
             undone_encoded: Counts::new(false, &["64", "65", "66", "72"]),
         }
     }
 
-    fn all(&self) -> [(&'static str, &Counts); 7] {
-        [
-            ("undo", &self.undo),
-            ("undo one layer", &self.layer),
-            ("encode", &self.encode),
-            ("SCF encode", &self.scf_encode),
-            ("SCF undo", &self.scf_undo),
-            ("encoded, then undone", &self.encoded_undone),
-            ("undone, then encoded", &self.undone_encoded),
+    fn answers(&mut self) -> Vec<(&'static str, &mut Counts)> {
+        vec![
+            ("undo", &mut self.undo),
+            ("undo one layer", &mut self.layer),
+            ("encode", &mut self.encode),
+            ("SCF encode", &mut self.scf_encode),
+            ("SCF undo", &mut self.scf_undo),
+        ]
+    }
+
+    fn others(&mut self) -> Vec<(&'static str, &mut Counts)> {
+        vec![
+            ("undo, layers of the block", &mut self.layers),
+            ("undo, layers undone to the end", &mut self.layers_undone),
+            ("encoded, then undone", &mut self.encoded_undone),
+            ("undone, then encoded", &mut self.undone_encoded),
         ]
     }
 
@@ -148,6 +155,10 @@ impl Comparison {
         let call = filter_inputs::undo_call(seed, number);
         let (made, _) = undone("undo", WHOLE, &call, &mut choices)?;
         self.undo.add(&filters::name(made));
+        self.layers.add(LAYERS[call.layers]);
+        if call.data.is_some() {
+            self.layers_undone.add(LAYERS[call.layers]);
+        }
         self.encode(&filter_inputs::encode_call(seed, number), &mut choices)?;
         if number % 2 == 0 {
             self.layer(&filter_inputs::layer_call(seed, number), &mut choices)
@@ -155,7 +166,9 @@ impl Comparison {
             self.scf(&filter_inputs::scf_call(seed, number), &mut choices)
         }
     }
+}
 
+impl Comparison {
     /// A single layer; if it is undone and its format has one form alone, it is encoded again.
     fn layer(&mut self, call: &UndoCall, choices: &mut Choices) -> Outcome {
         let (made, first) = undone("undo one layer", LAYER, call, choices)?;
@@ -191,6 +204,7 @@ impl Comparison {
             first: choices.random.bytes(call.data.len()),
             second: choices.random.bytes(call.data.len() + more),
             data: None,
+            layers: 1,
         };
         let (_, first) = undone("undo after encode", LAYER, &back, choices)?;
         let given = [("block", &out[..length]), ("data", &call.data)];

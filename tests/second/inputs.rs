@@ -387,29 +387,31 @@ impl Sound {
 
 type Damage = fn(&mut Random, &Sound, &mut Vec<u8>);
 
+// The damages of a part, about in the order of its tests.
+
 const HEADER_DAMAGES: [Damage; 9] = [
     magic,
     version,
     format_code,
     header_field,
+    length_beyond_its_field,
+    cut,
     header_character,
     header_padding,
-    length_beyond_its_field,
     index_fields,
-    cut,
 ];
 
 const READ_DAMAGES: [Damage; 10] = [
-    read_field,
     read_length,
+    read_field,
     name_byte,
     name_padding,
     clip,
     bases_beyond_the_file,
+    cut,
     increment,
     base,
     data_padding,
-    cut,
 ];
 
 const END_DAMAGES: [Damage; 6] = [
@@ -873,20 +875,27 @@ pub fn damaged_from(random: &mut Random, model: Model, damages: usize) -> Vec<u8
     let layout = lay_out(&model);
     let sound = Sound { model, layout };
     let mut bytes = sound.layout.bytes.clone();
-    let mut damages_of_one_part = group(random);
+    let mut part = group(random);
+    let mut at = random.below(part.len());
     for _ in 0..damages {
         let before = bytes.clone();
         // Not every damage finds what it would change: a file without reads has no clips.
         for _ in 0..5 {
-            random.pick(damages_of_one_part)(random, &sound, &mut bytes);
+            part[at](random, &sound, &mut bytes);
             if bytes != before {
                 break;
             }
+            at = random.below(part.len());
         }
-        // The next one mostly falls on the same part, so that the order of its tests matters.
+        // The next one mostly falls on the same part, and often on the test before or after, so that the
+        // order of its tests matters.
         if random.one_in(3) {
-            damages_of_one_part = group(random);
+            part = group(random);
         }
+        at = match random.below(2) {
+            0 => (at + random.pick(&[1, part.len() - 1])) % part.len(),
+            _ => random.below(part.len()),
+        };
     }
     bytes
 }

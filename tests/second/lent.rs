@@ -1,5 +1,7 @@
 //! Memory that is lent to a call.
 
+#![allow(dead_code)]
+
 /// A list that a call is given, with cells around it that the call must leave alone.
 pub struct Lent<T> {
     cells: Vec<T>,
@@ -43,5 +45,46 @@ impl<T: Copy + PartialEq> Lent<T> {
     /// Whether every cell is as it was lent.
     pub fn unchanged(&self) -> bool {
         self.cells == self.before
+    }
+}
+
+/// What stands in a number that a call writes, and on both sides of it, before the call: one that it
+/// leaves alone shows, and one beside it that it writes.
+const UNSET: u64 = 0xA5C3_96E1_5A3C_691E;
+
+/// A number that a call writes.
+pub struct Number {
+    cells: [u64; 3],
+}
+
+impl Number {
+    pub fn unset() -> Number {
+        Number::set(UNSET)
+    }
+
+    /// One that the call reads first.
+    pub fn set(number: u64) -> Number {
+        Number {
+            cells: [UNSET, number, UNSET],
+        }
+    }
+
+    pub fn pointer(&mut self) -> *mut u64 {
+        self.cells[1..].as_mut_ptr()
+    }
+
+    /// The same for a float, which is kept by its bits.
+    pub fn float_pointer(&mut self) -> *mut f64 {
+        self.pointer().cast()
+    }
+
+    /// What the call left.
+    pub fn now(&self) -> u64 {
+        let [before, number, after] = self.cells;
+        assert!(
+            [before, after] == [UNSET; 2],
+            "the library wrote beside a number that it was lent"
+        );
+        number
     }
 }

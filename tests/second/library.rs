@@ -4,7 +4,7 @@
 //!
 //! A case is a file for the calls that read, a new file, an append, a file built read by read, a
 //! correction and a list of them (`library_corrections`).
-//! The comparison ends with 1 at the first difference, and also if an answer never occurred (a run
+//! The comparison ends with 1 at the first difference, and with 3 if an answer never occurred (a run
 //! needs some thousands of cases for that).
 
 mod calls;
@@ -16,30 +16,31 @@ mod exports;
 mod inputs;
 mod lent;
 mod library_corrections;
+mod made;
 mod reading;
 mod running;
 mod sff;
+mod shared_calls;
 mod writing;
 
-use comparing::{differ, holds, same, unchanged, Choices, Difference, Outcome};
+use comparing::{begins, differ, holds, same, unchanged, Choices, Difference, Outcome};
 use counts::Counts;
-use exports::{Inserted, LentRead, Made, State, Stepped, Summed};
+use exports::{Inserted, LentRead, State, Stepped, Summed};
 use lent::Lent;
-use library_corrections::Corrections;
+use library_corrections::Lists;
+use made::Made;
 use sff::{numbers, Reader};
+use shared_calls::{Corrected, Tests};
 use writing::NewRead;
 
 fn main() {
-    running::run("second-library", compare);
+    running::run::<Comparison>("second-library", fixed);
 }
 
-fn compare(seed: u64, count: u64, first: u64) -> Result<(), String> {
-    file_e().map_err(|difference| difference.message)?;
-    many_bases().map_err(|difference| difference.message)?;
-    library_corrections::file_e().map_err(|difference| difference.message)?;
-    let mut comparison = Comparison::new();
-    running::cases(seed, count, first, |seed, number| comparison.case(seed, number))?;
-    running::occurred(&comparison.all())
+fn fixed() -> Outcome {
+    file_e()?;
+    many_bases()?;
+    library_corrections::file_e()
 }
 
 /// Document 01: "insert 2 to 3, CC. Mean signal 0.75 (run)."
@@ -94,17 +95,24 @@ fn many_bases() -> Outcome {
         return differ("no address space for 4,294,967,296 bytes".to_string(), &[]);
     }
     let mut file = vec![0; 32];
-    let written = writing::new_file(&mut file, b"", b"");
+    let length = writing::new_file(&mut file, b"", b"").length;
     for (count, number) in [(MOST, 10), (MOST + 1, 30)] {
-        let mut buffer = Lent::new(&file, 9, 8);
-        let made = Made {
-            number,
-            place: 0,
-            length: written.length,
+        let zeros = unsafe { std::slice::from_raw_parts(lists, count) };
+        let read = NewRead {
+            name: b"",
+            clips: [0; 4],
+            values: &[],
+            increments: zeros,
+            bases: zeros,
+            qualities: zeros,
         };
-        let library = exports::append_many(&mut buffer, written.length, lists, count);
-        same(&format!("append of {count} bases"), library, made, &[])?;
-        holds("append of many bases", &buffer, &file, &[])?;
+        let call = format!("append of {count} bases");
+        let second = Made::of(writing::append(&mut file.clone(), length, &read));
+        same(&call, second.number, number, &[])?;
+        let mut buffer = Lent::new(&file, 9, 8);
+        let library = exports::append_many(&mut buffer, length, lists, count);
+        same(&call, library, second, &[])?;
+        holds(&call, &buffer, &file, &[])?;
     }
     Ok(())
 }
@@ -133,49 +141,92 @@ fn lend_read(choices: &mut Choices, read: &NewRead) -> LentRead {
     }
 }
 
+/// One step; the next state if it gives a read.
+fn step(
+    file: &[u8],
+    lent: &Lent<u8>,
+    reader: Reader,
+    answers: &mut Counts,
+) -> Result<Option<Reader>, Difference> {
+    let step = reader.step(file);
+    let (number, place) = numbers(step.refusal);
+    let read = step.read;
+    let second = Stepped {
+        number,
+        place,
+        state: state(step.state),
+        read_start: read.map_or(0, |read| read.start as u64),
+        name_length: read.map_or(0, |read| read.name.len() as u64),
+        bases: read.map_or(0, |read| read.bases.len() as u64),
+        clips: read.map_or(0, |read| packed(read.clips)),
+    };
+    let call = format!("step from {:?}", state(reader));
+    let library = exports::step(lent, state(reader));
+    same(&call, library, second, &[("file", file)])?;
+    answers.add(&counts::name(step.refusal));
+    Ok(read.map(|_| step.state))
+}
+
 /// How often each answer of each call occurred.
 struct Comparison {
-    test: Counts,
+    tests: Tests,
+    fresh: Counts,
     step: Counts,
+    forged_step: Counts,
     insert: Counts,
     signal: Counts,
     new: Counts,
     append: Counts,
-    corrections: Corrections,
+    corrected: Corrected,
+    lists: Lists,
 }
 
-impl Comparison {
+impl running::Comparison for Comparison {
     fn new() -> Comparison {
         Comparison {
-            test: Counts::new(true, &[]),
+            tests: Tests::new(),
+            fresh: Counts::new(false, &["0 at the header's end", "0 at the front"]),
+            step: Counts::new(true, &["33"]),
             // 1 alone: the state's place is beyond the file.
-            step: Counts::new(true, &["1", "33"]),
+            forged_step: Counts::new(true, &["1", "33"]),
             insert: Counts::new(true, &["0 empty", "21"]),
             signal: Counts::new(true, &["21", "32"]),
             new: Counts::new(false, &counts::OF_NEW),
             append: Counts::new(true, &counts::OF_APPEND),
-            corrections: Corrections::new(),
+            corrected: Corrected::new(),
+            lists: Lists::new(),
         }
     }
 
-    fn all(&self) -> Vec<(&'static str, &Counts)> {
-        let mut all = vec![
-            ("test", &self.test),
-            ("step", &self.step),
-            ("insert", &self.insert),
-            ("signal", &self.signal),
-            ("new", &self.new),
-            ("append", &self.append),
-        ];
-        all.extend(self.corrections.all());
-        all
+    fn answers(&mut self) -> Vec<(&'static str, &mut Counts)> {
+        vec![
+            ("test", &mut self.tests.answers),
+            ("fresh", &mut self.fresh),
+            ("step", &mut self.step),
+            ("step, forged state", &mut self.forged_step),
+            ("insert", &mut self.insert),
+            ("signal", &mut self.signal),
+            ("new", &mut self.new),
+            ("append", &mut self.append),
+            ("correct", &mut self.corrected.answers),
+            ("list", &mut self.lists.answers),
+        ]
+    }
+
+    fn others(&mut self) -> Vec<(&'static str, &mut Counts)> {
+        vec![
+            ("test, sound files", &mut self.tests.shapes),
+            ("correct, carried out", &mut self.corrected.carried_out),
+            ("list, carried out", &mut self.lists.carried_out),
+        ]
     }
 
     fn case(&mut self, seed: u64, number: u64) -> Outcome {
         let mut choices = Choices::new(seed, number);
         let file = calls::file(seed, number);
         let lent = choices.lend(&file, 1);
-        self.test(&file, &lent)?;
+        let tested = sff::test_file(&file);
+        self.tests.case(exports::test, &file, &lent, &tested)?;
         self.steps(&file, &lent, &mut choices)?;
         for _ in 0..3 {
             let position = calls::position(&mut choices.random, &file);
@@ -205,21 +256,14 @@ impl Comparison {
             &mut choices,
         )?;
         self.build(&calls::build_call(seed, number), &mut choices)?;
-        self.corrections.case(seed, number, &mut choices)
+        let call = corrections::correct_call(seed, number);
+        self.corrected.case(exports::correct, &call, &mut choices)?;
+        let call = corrections::list_call(seed, number);
+        self.lists.case(&call, &mut choices)
     }
+}
 
-    fn test(&mut self, file: &[u8], lent: &Lent<u8>) -> Outcome {
-        let refusal = sff::test_file(file).err();
-        same(
-            "test",
-            exports::test(lent),
-            numbers(refusal),
-            &[("file", file)],
-        )?;
-        self.test.add(&counts::name(refusal));
-        Ok(())
-    }
-
+impl Comparison {
     /// From a fresh state to the end, and from some forged ones.
     fn steps(&mut self, file: &[u8], lent: &Lent<u8>, choices: &mut Choices) -> Outcome {
         let mut reader = Reader::fresh(file);
@@ -229,42 +273,20 @@ impl Comparison {
             (0, state(reader)),
             &[("file", file)],
         )?;
+        self.fresh.add(match sff::test_header(file) {
+            Ok(_) => "0 at the header's end",
+            Err(_) => "0 at the front",
+        });
         let mut met = vec![reader];
-        while let Some(next) = self.step(file, lent, reader)? {
+        while let Some(next) = step(file, lent, reader, &mut self.step)? {
             reader = next;
             met.push(reader);
         }
         for _ in 0..6 {
             let forged = calls::state(&mut choices.random, file, &met);
-            self.step(file, lent, forged)?;
+            step(file, lent, forged, &mut self.forged_step)?;
         }
         Ok(())
-    }
-
-    /// One step; the next state if it gives a read.
-    fn step(
-        &mut self,
-        file: &[u8],
-        lent: &Lent<u8>,
-        reader: Reader,
-    ) -> Result<Option<Reader>, Difference> {
-        let step = reader.step(file);
-        let (number, place) = numbers(step.refusal);
-        let read = step.read;
-        let second = Stepped {
-            number,
-            place,
-            state: state(step.state),
-            read_start: read.map_or(0, |read| read.start as u64),
-            name_length: read.map_or(0, |read| read.name.len() as u64),
-            bases: read.map_or(0, |read| read.bases.len() as u64),
-            clips: read.map_or(0, |read| packed(read.clips)),
-        };
-        let call = format!("step from {:?}", state(reader));
-        let library = exports::step(lent, state(reader));
-        same(&call, library, second, &[("file", file)])?;
-        self.step.add(&counts::name(step.refusal));
-        Ok(read.map(|_| step.state))
     }
 
     fn insert(
@@ -407,6 +429,6 @@ impl Comparison {
         }
         let given = [("buffer", &call.buffer[..]), ("file", &call.file)];
         same("a built file", length, call.file.len() as u64, &given)?;
-        holds("a built file", &buffer, &call.file, &given)
+        begins("a built file", &buffer, &call.file, &given)
     }
 }

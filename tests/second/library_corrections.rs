@@ -1,12 +1,14 @@
-//! The comparison of corrections and of lists: whole answers, the whole buffer, and that record and list
-//! stay as they are.
+//! The comparison of lists of corrections: whole answers, the whole buffer, and that the list stays as it
+//! is; and document 01's examples of corrections.
 
 use crate::comparing::{holds, same, unchanged, Choices, Outcome};
 use crate::correcting::{self, RECORD};
-use crate::corrections::{correct_call, list_call, Record, CLIPS, RENAME};
+use crate::corrections::{ListCall, Record};
 use crate::counts::{self, Counts};
-use crate::exports::{self, Made, MadeByList};
+use crate::exports::{self, MadeByList};
 use crate::lent::Lent;
+use crate::made::Made;
+use crate::shared_calls::{kind, KINDS};
 
 const E: &[u8] = include_bytes!("../../samples/e.sff");
 
@@ -39,98 +41,39 @@ pub fn file_e() -> Outcome {
     Ok(())
 }
 
-/// How often each answer occurred, and how often each kind of record was carried out.
-pub struct Corrections {
-    correct: Counts,
-    corrected: Counts,
-    list: Counts,
-    listed: Counts,
+/// How often each answer of a list occurred, and how often each kind of record was carried out in one.
+pub struct Lists {
+    pub answers: Counts,
+    pub carried_out: Counts,
 }
 
-impl Corrections {
-    pub fn new() -> Corrections {
-        let kinds = ["clips", "rename", "remove"];
-        Corrections {
-            correct: Counts::new(true, &counts::OF_CORRECTION),
-            corrected: Counts::new(false, &kinds),
-            list: Counts::new(true, &counts::OF_LIST),
-            listed: Counts::new(false, &kinds),
+impl Lists {
+    pub fn new() -> Lists {
+        Lists {
+            answers: Counts::new(true, &counts::OF_LIST),
+            carried_out: Counts::new(false, &KINDS),
         }
     }
 
-    pub fn all(&self) -> [(&'static str, &Counts); 4] {
-        [
-            ("correct", &self.correct),
-            ("correct, carried out", &self.corrected),
-            ("list", &self.list),
-            ("list, records carried out", &self.listed),
-        ]
-    }
-
-    pub fn case(&mut self, seed: u64, number: u64, choices: &mut Choices) -> Outcome {
-        let call = correct_call(seed, number);
-        self.correct(&call.buffer, call.file_length, &call.record, choices)?;
-        let call = list_call(seed, number);
-        self.list(&call.buffer, call.file_length, &call.list, choices)
-    }
-
-    fn correct(
-        &mut self,
-        before: &[u8],
-        file_length: u64,
-        record: &[u8],
-        choices: &mut Choices,
-    ) -> Outcome {
-        let given = [("buffer", before), ("record", record)];
-        let call = format!("correct, length {file_length}");
-        let mut second = before.to_vec();
-        let written = correcting::correct(&mut second, file_length, record);
-        let (mut buffer, lent) = (choices.lend(before, 9), choices.lend(record, 1));
-        let library = exports::correct(&mut buffer, file_length, &lent);
-        same(&call, library, Made::of(written), &given)?;
-        holds(&call, &buffer, &second, &given)?;
-        unchanged(&call, lent.unchanged(), &given)?;
-        self.correct.add(&counts::name(written.refusal));
-        if written.refusal.is_none() {
-            self.corrected.add(kind(record));
-        }
-        Ok(())
-    }
-
-    fn list(
-        &mut self,
-        before: &[u8],
-        file_length: u64,
-        list: &[u8],
-        choices: &mut Choices,
-    ) -> Outcome {
-        let given = [("buffer", before), ("list", list)];
-        let call = format!("list, length {file_length}");
-        let mut second = before.to_vec();
-        let run = correcting::correct_list(&mut second, file_length, list);
+    pub fn case(&mut self, call: &ListCall, choices: &mut Choices) -> Outcome {
+        let given = [("buffer", &call.buffer[..]), ("list", &call.list)];
+        let name = format!("list, length {}", call.file_length);
+        let mut second = call.buffer.clone();
+        let run = correcting::correct_list(&mut second, call.file_length, &call.list);
         let expected = MadeByList {
             count: run.count,
             last: Made::of(run.last),
         };
-        let (mut buffer, lent) = (choices.lend(before, 9), choices.lend(list, 1));
-        let library = exports::correct_list(&mut buffer, file_length, &lent);
-        same(&call, library, expected, &given)?;
-        holds(&call, &buffer, &second, &given)?;
-        unchanged(&call, lent.unchanged(), &given)?;
-        let name = counts::name_of_list(list, run.count, run.last.refusal);
-        self.list.add(&name);
-        for record in list.chunks(RECORD).take(run.count as usize) {
-            self.listed.add(kind(record));
+        let (mut buffer, list) = (choices.lend(&call.buffer, 9), choices.lend(&call.list, 1));
+        let library = exports::correct_list(&mut buffer, call.file_length, &list);
+        same(&name, library, expected, &given)?;
+        holds(&name, &buffer, &second, &given)?;
+        unchanged(&name, list.unchanged(), &given)?;
+        let answer = counts::name_of_list(&call.list, run.count, run.last.refusal);
+        self.answers.add(&answer);
+        for record in call.list.chunks(RECORD).take(run.count as usize) {
+            self.carried_out.add(kind(record));
         }
         Ok(())
-    }
-}
-
-/// The kind of a record that was carried out.
-fn kind(record: &[u8]) -> &'static str {
-    match record[0] {
-        CLIPS => "clips",
-        RENAME => "rename",
-        _ => "remove",
     }
 }

@@ -5,8 +5,8 @@
 //!     second-lister listing                     prints the listing of standard input
 //!
 //! The comparison ends with 1 at the first difference, and also if an answer never occurred (a run
-//! needs some hundreds of inputs for that). Exit codes of the lister and its standard error are not
-//! looked at: document 01 says nothing of them.
+//! needs some hundreds of inputs for that). The lister's exit status must be 0: a refused file is listed
+//! as refused. Its standard error is not looked at.
 
 mod counts;
 mod inputs;
@@ -84,7 +84,7 @@ fn compare(lister: &str, seed: u64, count: u64) -> Result<(), String> {
         }
         counts.add(&counts::listed(&input));
     }
-    println!("{count} inputs alike; {}", counts.line());
+    println!("lister: {count} alike; {}", counts.line());
     let missing = counts.below(1);
     if !missing.is_empty() {
         return Err(format!("never occurred: {}", missing.join(", ")));
@@ -124,8 +124,8 @@ fn run(lister: &str, input: &[u8]) -> Result<Vec<u8>, String> {
         }
     };
     let status = child.wait().map_err(|error| error.to_string())?;
-    if status.code().is_none() {
-        return Err(format!("the lister did not end by itself: {status}"));
+    if !status.success() {
+        return Err(format!("the lister did not end with 0: {status}"));
     }
     Ok(printed)
 }

@@ -395,7 +395,7 @@ fn forged_states_of_e() {
     assert_eq!(refusal(&E, state(40, 1, no)), (12, 40));
     assert_eq!(refusal(&E, state(0, 0, no)), (5, 0));
     assert_eq!(refusal(&E, state(87, 0, no)), (1, 87));
-    // On a file without an index the flag "has no effect and comes back as it came" (READINGS).
+    // On a file without an index the flag "has no effect and comes back as it came" (docs/DECISIONS.md).
     assert_eq!(state(40, 0, true).step(&E).state, state(88, 1, true));
 }
 

@@ -6,8 +6,8 @@ use crate::counts::{self, Counts};
 use crate::inputs::{self, lay_out, Model, Read};
 use crate::reading::{insert, signal};
 use crate::samples::{e_with, samples, E};
-use crate::sff::{file_test, numbers, test_file};
-use crate::writing::{append, new_file, NewRead, Written};
+use crate::sff::{file_test, numbers, test_file, test_header};
+use crate::writing::{append, new_file, test_read, NewRead, Written};
 
 const SEED: u64 = 454;
 
@@ -356,6 +356,43 @@ fn the_order_of_an_append() {
     assert_eq!(append_to(&E, 88, &read), (11, 0, 88));
     read.bases = b"TTT";
     assert_eq!(append_to(&E, 88, &read), (26, 0, 88));
+}
+
+/// "25 ..; 31 reads already 4,294,967,295; 30 ..", judged on the header alone: the file itself is one of
+/// `many_reads`.
+#[test]
+fn the_most_reads() {
+    // reads, index length, values, number
+    let cases: [(u64, u64, &[u16], u64); 6] = [
+        (4_294_967_295, 8, &[], 25),
+        (4_294_967_295, 0, &[], 31),
+        (4_294_967_295, 0, &[0; 4], 31),
+        (4_294_967_294, 0, &[], 30),
+        (4_294_967_294, 0, &[0; 4], 26),
+        (0, 0, &[0; 4], 26),
+    ];
+    for (reads, index_length, values, number) in cases {
+        let mut file = E.to_vec();
+        inputs::set(&mut file, 8, 8, index_length * 11);
+        inputs::set(&mut file, 16, 4, index_length);
+        inputs::set(&mut file, 20, 4, reads);
+        let header = test_header(&file).expect("a header");
+        let read = NewRead {
+            name: b"",
+            clips: [0; 4],
+            values,
+            increments: &[],
+            bases: b"",
+            qualities: &[],
+        };
+        let refusal = test_read(&header, 88, 88, &read).err();
+        assert_eq!(numbers(refusal), (number, 0), "{reads} reads");
+        // 16 bytes of the header section and 8 of the data section
+        let made = test_read(&header, 112, 88, &read).map(|(count, new)| (count, new.len()));
+        if number == 26 {
+            assert_eq!(made, Ok((reads + 1, 24)));
+        }
+    }
 }
 
 /// "a new file and an append for each read leave these bytes in any buffer that holds them"

@@ -180,7 +180,7 @@ fn renames_from_any_length_to_any_other() {
     }
 }
 
-/// "26 can come from a rename alone" (READINGS), and comes where the new file does not fit.
+/// "26 can come from a rename alone" (docs/DECISIONS.md), and comes where the new file does not fit.
 #[test]
 fn room_for_a_rename() {
     let before = file(&[b"r1", b"other"]);
@@ -251,7 +251,7 @@ fn removals_lower_the_count() {
 fn renaming_to_its_own_name() {
     let one = file(&[b"r1", b"r2"]);
     leaves(&one, 3, &Record::rename(0, b"r1", b"r1"), &one);
-    // "unless a second read bears it" (READINGS), before it or behind it
+    // "unless a second read bears it" (docs/DECISIONS.md), before it or behind it
     let two = file(&[b"r1", b"r2", b"r1"]);
     assert_eq!(number(&two, &Record::rename(0, b"r1", b"r1")), 24);
     assert_eq!(number(&two, &Record::rename(2, b"r1", b"r1")), 24);
@@ -280,7 +280,7 @@ fn names_with_their_lengths() {
     }
 }
 
-/// "A read with an empty name or one over 40 bytes can't be corrected." (READINGS) Others in its file
+/// "A read with an empty name or one over 40 bytes can't be corrected." (docs/DECISIONS.md) Others in its file
 /// can.
 #[test]
 fn reads_that_no_record_can_name() {

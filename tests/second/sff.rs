@@ -97,7 +97,7 @@ impl Header<'_> {
 }
 
 /// "Header: 1 (under 31 bytes), 2, 3, 4, 5, 1 (under header length), 6, 7, 8."
-fn test_header(file: &[u8]) -> Result<Header<'_>, Refusal> {
+pub fn test_header(file: &[u8]) -> Result<Header<'_>, Refusal> {
     // 1: "section runs past the end", place "its start"
     if file.len() < 31 {
         return refuse(1, 0, Section::Header);
@@ -326,8 +326,23 @@ pub struct Contents<'a> {
 /// The whole file: its header, then "at each boundary: an index declared there and not yet passed is
 /// passed, to the boundary at its end; else, if reads remain, a read is tested; else the end".
 pub fn test_file(file: &[u8]) -> Result<Contents<'_>, Refusal> {
-    let header = test_header(file)?;
     let mut reads = Vec::new();
+    let (header, index) = walk_file(file, |read| reads.push(read))?;
+    Ok(Contents {
+        header,
+        reads,
+        index,
+    })
+}
+
+/// The same test, which hands each read over and keeps none: no memory would hold the reads of the
+/// longest files. The header, and the index's bytes.
+pub fn walk_file<'a>(
+    file: &'a [u8],
+    mut hand_over: impl FnMut(Read<'a>),
+) -> Result<(Header<'a>, &'a [u8]), Refusal> {
+    let header = test_header(file)?;
+    let mut passed_reads = 0;
     let mut index: &[u8] = &[];
     let mut index_passed = false;
     let mut boundary = header.length;
@@ -337,10 +352,11 @@ pub fn test_file(file: &[u8]) -> Result<Contents<'_>, Refusal> {
             index = &file[boundary..end];
             boundary = end;
             index_passed = true;
-        } else if (reads.len() as u64) < header.reads {
+        } else if passed_reads < header.reads {
             let read = test_read(file, &header, boundary)?;
             boundary = read.end;
-            reads.push(read);
+            passed_reads += 1;
+            hand_over(read);
         } else {
             break;
         }
@@ -352,11 +368,7 @@ pub fn test_file(file: &[u8]) -> Result<Contents<'_>, Refusal> {
     if boundary < file.len() {
         return refuse(12, boundary, Section::End);
     }
-    Ok(Contents {
-        header,
-        reads,
-        index,
-    })
+    Ok((header, index))
 }
 
 /// Number and place of the whole-file test.

@@ -4,8 +4,8 @@
 #![allow(dead_code)]
 
 use crate::sff::{
-    flow_walk, is_flow_character, is_name_byte, refuse, test_file, up8, wrong_base, Refusal,
-    Section,
+    flow_walk, is_flow_character, is_name_byte, refuse, up8, walk_file, wrong_base, Header,
+    Refusal, Section,
 };
 
 /// What a writer answers: "A writer or corrector also answers the file's length afterwards".
@@ -114,15 +114,25 @@ pub fn append(buffer: &mut [u8], file_length: u64, read: &NewRead) -> Written {
     }
 }
 
-/// The tests in order, and else the new count and the new sections. No test reaches 31, since a file
-/// of so many reads has at least 64 GiB.
+/// The tests in order, and else the new count and the new sections. The file's reads are not kept, since
+/// 31 asks for 4,294,967,295 of them.
 fn test_append(buffer: &[u8], file_length: u64, read: &NewRead) -> Result<(u64, Vec<u8>), Refusal> {
     // "14 length stated above the buffer"
     if file_length > buffer.len() as u64 {
         return refuse_input(14);
     }
     // "the file's own refusal"
-    let header = test_file(&buffer[..file_length as usize])?.header;
+    let (header, _) = walk_file(&buffer[..file_length as usize], |_| {})?;
+    test_read(&header, buffer.len() as u64, file_length, read)
+}
+
+/// The tests that come after the file's own refusal.
+pub fn test_read(
+    header: &Header,
+    room: u64,
+    file_length: u64,
+    read: &NewRead,
+) -> Result<(u64, Vec<u8>), Refusal> {
     // "25 an index is present"
     if header.has_index() {
         return refuse_input(25);
@@ -158,7 +168,7 @@ fn test_append(buffer: &[u8], file_length: u64, read: &NewRead) -> Result<(u64, 
     }
     // "26 new length above the buffer"
     let sections = sections(read);
-    if file_length + sections.len() as u64 > buffer.len() as u64 {
+    if file_length + sections.len() as u64 > room {
         return refuse_input(26);
     }
     Ok((header.reads + 1, sections))

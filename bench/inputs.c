@@ -168,7 +168,7 @@ uint8_t *make_clip_list(const File *file, size_t n) {
 uint8_t *make_trace(size_t n, unsigned w) {
     uint64_t state = 3730;
     uint8_t *data = room_of(n + 8);
-    double most = w == 1 ? 200 : w == 2 ? 12000 : 900000;
+    double most = w == 1 ? 200 : 500;
     double height = 0, noise = most / 400;
     for (size_t i = 0; i < n / w; i++) {
         // A peak every 12 samples, of another height each.

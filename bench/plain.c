@@ -457,31 +457,30 @@ static inline void put_unit(uint8_t *s, unsigned w, uint32_t v) {
         put32(s, v);
 }
 
+// The unit at i.
+static inline uint32_t unit_at(const uint8_t *s, size_t i, unsigned w) { return get_unit(s + i * w, w); }
+
 // All levels in one pass: a unit less what the units before it predict, as the Staden package's io_lib does it. Units are computed at 32 bits; the low
 // bytes are the unit's.
 static inline void delta_of(const uint8_t *restrict from, uint8_t *restrict to, size_t n, unsigned w, uint64_t level) {
+    size_t units = n / w;
     uint32_t a = 0, b = 0, c = 0;
+    for (size_t i = 0; i < level && i < units; i++) {
+        uint32_t x = unit_at(from, i, w);
+        put_unit(to + i * w, w, level == 1 ? x - a : level == 2 ? x - 2 * a + b : x - 3 * a + 3 * b - c);
+        c = b;
+        b = a;
+        a = x;
+    }
     if (level == 1)
-        for (size_t i = 0; i < n; i += w) {
-            uint32_t x = get_unit(from + i, w);
-            put_unit(to + i, w, x - a);
-            a = x;
-        }
+        for (size_t i = 1; i < units; i++)
+            put_unit(to + i * w, w, unit_at(from, i, w) - unit_at(from, i - 1, w));
     else if (level == 2)
-        for (size_t i = 0; i < n; i += w) {
-            uint32_t x = get_unit(from + i, w);
-            put_unit(to + i, w, x - 2 * a + b);
-            b = a;
-            a = x;
-        }
+        for (size_t i = 2; i < units; i++)
+            put_unit(to + i * w, w, unit_at(from, i, w) - 2 * unit_at(from, i - 1, w) + unit_at(from, i - 2, w));
     else
-        for (size_t i = 0; i < n; i += w) {
-            uint32_t x = get_unit(from + i, w);
-            put_unit(to + i, w, x - 3 * a + 3 * b - c);
-            c = b;
-            b = a;
-            a = x;
-        }
+        for (size_t i = 3; i < units; i++)
+            put_unit(to + i * w, w, unit_at(from, i, w) - 3 * unit_at(from, i - 1, w) + 3 * unit_at(from, i - 2, w) - unit_at(from, i - 3, w));
 }
 
 // The sums of the sums of the sums, in one pass.

@@ -111,10 +111,10 @@ static void agree(const char *what, Case *c, Action restore, Action run) {
 }
 
 // group, what, bytes, what is restored, what stands third; best and median of library, plain C and the third, in nanoseconds.
-static void say(const char *group, const char *what, size_t bytes, const char *restored, const char *third, const double ns[6]) {
+static void say(const char *group, const char *what, size_t bytes, const char *restored, const char *third, const Subject subjects[3]) {
     fprintf(results, "%s|%s|%zu|%s|%s", group, what, bytes, restored, third);
-    for (int i = 0; i < 6; i++)
-        fprintf(results, "|%.1f", ns[i] * 1e9);
+    for (int i = 0; i < 3; i++)
+        fprintf(results, "|%.1f|%.1f", subjects[i].best * 1e9, subjects[i].median * 1e9);
     fprintf(results, "\n");
     fflush(results);
 }
@@ -124,8 +124,7 @@ static void row(const char *group, const char *what, size_t bytes, const char *r
     agree(what, c, restore, run);
     Subject s[3] = {{.run = run, .calls = &library}, {.run = run, .calls = &plain}, {.run = third_run, .calls = &library}};
     measure(c, restore, s, 3, rounds_for(bytes));
-    const double ns[6] = {s[0].best, s[0].median, s[1].best, s[1].median, s[2].best, s[2].median};
-    say(group, what, bytes, restored, third, ns);
+    say(group, what, bytes, restored, third, s);
 }
 
 // The calls.
@@ -184,6 +183,11 @@ static void copy_file(Case *c, const Calls *calls) {
 static void copy_data(Case *c, const Calls *calls) {
     (void)calls;
     memcpy(c->buffer, c->data, c->size);
+}
+
+static void nothing(Case *c, const Calls *calls) {
+    (void)c;
+    (void)calls;
 }
 
 static void move_up_once(Case *c, const Calls *calls) {
@@ -273,18 +277,15 @@ static void moves_down(Case *c) {
     c->list_size = sizeof moving;
 }
 
+// Two rows, with the moves and without them: what lies between is their time.
 static void moves_row(const char *what, size_t bytes, Action memory, Case *c) {
     agree(what, c, restore_file, run_list);
     agree(what, c, restore_file, run_still);
-    Subject s[5] = {{.run = run_list, .calls = &library},
-                    {.run = run_still, .calls = &library},
-                    {.run = run_list, .calls = &plain},
-                    {.run = run_still, .calls = &plain},
-                    {.run = memory}};
-    measure(c, restore_file, s, 5, rounds_for(bytes));
-    const double ns[6] = {(s[0].best - s[1].best) / MOVES, (s[0].median - s[1].median) / MOVES, (s[2].best - s[3].best) / MOVES,
-                          (s[2].median - s[3].median) / MOVES, s[4].best / MOVES, s[4].median / MOVES};
-    say("moves", what, bytes, "file", "memmove", ns);
+    Subject s[6] = {{.run = run_list, .calls = &library},  {.run = run_list, .calls = &plain},  {.run = memory},
+                    {.run = run_still, .calls = &library}, {.run = run_still, .calls = &plain}, {.run = nothing}};
+    measure(c, restore_file, s, 6, rounds_for(bytes));
+    say("moving", what, bytes, "file", "memmove", s);
+    say("still", what, bytes, "file", "nothing", s + 3);
 }
 
 static void file_rows(size_t bytes) {
@@ -313,15 +314,15 @@ static void file_rows(size_t bytes) {
     row("files", "append of a read", bytes, "count", restore_count, run_append, "memcpy", copy_file, &c);
 
     moves_up(&c);
-    moves_row("a move up by 8", bytes, move_up, &c);
+    moves_row("move up by 8", bytes, move_up, &c);
     moves_down(&c);
-    moves_row("a move down by a read, end zeroed", bytes, move_down, &c);
+    moves_row("move down by a read, end zeroed", bytes, move_down, &c);
 
     restore_file(&c, NULL);
     for (size_t n = 1; n <= 10000; n *= 10) {
         char what[64];
         uint8_t *list = make_clip_list(&file, n);
-        snprintf(what, sizeof what, "list of %zu clip corrections", n);
+        snprintf(what, sizeof what, "%zu record%s", n, n == 1 ? "" : "s");
         c.list = list;
         c.list_size = RECORD * n;
         row("lists", what, bytes, "-", NULL, run_list, "one test", run_test, &c);

@@ -12,7 +12,7 @@
 #include <time.h>
 #include <unistd.h>
 
-enum { MEGABYTE = 1000000, MOVES = 10, MOST_ROUNDS = 100000, LEAST_ROUNDS = 3 };
+enum { MEGABYTE = 1000000, MOVES = 10, LEAST_ROUNDS = 3 };
 
 // What a row works on, and what its last call answered.
 typedef struct {
@@ -33,10 +33,20 @@ typedef void (*Action)(Case *, const Calls *);
 static FILE *results;
 static int rounds;
 
-static double seconds(void) {
+static double seconds(clockid_t clock) {
     struct timespec t;
-    clock_gettime(CLOCK_MONOTONIC, &t);
+    clock_gettime(clock, &t);
     return (double)t.tv_sec + (double)t.tv_nsec * 1e-9;
+}
+
+// The lesser of the time that passes and of the time that this program has the core: what others take of it is not counted.
+static double time_of(Action run, Case *c, const Calls *calls) {
+    double core = seconds(CLOCK_THREAD_CPUTIME_ID);
+    double start = seconds(CLOCK_MONOTONIC);
+    run(c, calls);
+    double passed = seconds(CLOCK_MONOTONIC) - start;
+    core = seconds(CLOCK_THREAD_CPUTIME_ID) - core;
+    return passed < core ? passed : core;
 }
 
 static int ascending(const void *a, const void *b) {
@@ -52,7 +62,15 @@ typedef struct {
     double best, median;
 } Subject;
 
-static void measure(Case *c, Action restore, Subject *subjects, int n, int times) {
+// A refusal would be quick: none is timed.
+static void carried_out(const char *what, const Case *c) {
+    if (c->number == 0)
+        return;
+    fprintf(stderr, "bench: refused with %llu: %s\n", (unsigned long long)c->number, what);
+    exit(1);
+}
+
+static void measure(const char *what, Case *c, Action restore, Subject *subjects, int n, int times) {
     for (int i = 0; i < n; i++)
         subjects[i].times = room_of(sizeof(double) * (size_t)times);
     for (int r = 0; r < times; r++)
@@ -61,9 +79,8 @@ static void measure(Case *c, Action restore, Subject *subjects, int n, int times
             int k = r % 2 == 0 ? (i + r) % n : (n - 1 - i + r) % n;
             if (restore != NULL)
                 restore(c, NULL);
-            double start = seconds();
-            subjects[k].run(c, subjects[k].calls);
-            subjects[k].times[r] = seconds() - start;
+            subjects[k].times[r] = time_of(subjects[k].run, c, subjects[k].calls);
+            carried_out(what, c);
         }
     for (int i = 0; i < n; i++) {
         qsort(subjects[i].times, (size_t)times, sizeof(double), ascending);
@@ -76,36 +93,35 @@ static void measure(Case *c, Action restore, Subject *subjects, int n, int times
 // More rounds where a call is short.
 static int rounds_for(size_t bytes) {
     int many = bytes > 50 * MEGABYTE ? rounds : bytes > 5 * MEGABYTE ? 4 * rounds : 20 * rounds;
-    return many < LEAST_ROUNDS ? LEAST_ROUNDS : many > MOST_ROUNDS ? MOST_ROUNDS : many;
+    return many < LEAST_ROUNDS ? LEAST_ROUNDS : many;
 }
 
-// Both do the same: number, place, length, count and every byte of both buffers.
-static void agree(const char *what, Case *c, Action restore, Action run) {
-    Case before = *c;
-    Case answers[2];
-    uint8_t *left[2] = {room_of(2 * c->room), room_of(2 * c->room)};
+// From the same bytes, library and plain C answer and leave the same: number, place, length, count and every byte of both buffers.
+static void agree(const char *what, Case *c, Action run) {
     const Calls *const both[2] = {&library, &plain};
+    size_t n = c->room;
+    uint8_t *before = room_of(n), *left[2] = {room_of(2 * n), room_of(2 * n)};
+    Case answers[2];
+    memcpy(before, c->buffer, n);
     for (int i = 0; i < 2; i++) {
-        *c = before;
         c->number = c->place = c->length = c->count = 12345;
-        if (restore != NULL)
-            restore(c, NULL);
-        run(c, both[i]);
-        answers[i] = *c;
-        memcpy(left[i], c->buffer, c->room);
+        memcpy(c->buffer, before, n);
         if (c->second != NULL)
-            memcpy(left[i] + c->room, c->second, c->room);
+            memset(c->second, 0x5A, n);
+        run(c, both[i]);
+        carried_out(what, c);
+        answers[i] = *c;
+        memcpy(left[i], c->buffer, n);
+        if (c->second != NULL)
+            memcpy(left[i] + n, c->second, n);
     }
     const Case *a = &answers[0], *b = &answers[1];
-    if (a->number != b->number || a->place != b->place || a->length != b->length || a->count != b->count ||
-        memcmp(left[0], left[1], 2 * c->room) != 0) {
+    if (a->place != b->place || a->length != b->length || a->count != b->count || memcmp(left[0], left[1], 2 * n) != 0) {
         fprintf(stderr, "bench: library and plain C differ: %s\n", what);
         exit(1);
     }
-    if (a->number != 0) {
-        fprintf(stderr, "bench: refused with %llu: %s\n", (unsigned long long)a->number, what);
-        exit(1);
-    }
+    memcpy(c->buffer, before, n);
+    free(before);
     free(left[0]);
     free(left[1]);
 }
@@ -121,9 +137,11 @@ static void say(const char *group, const char *what, size_t bytes, const char *r
 
 static void row(const char *group, const char *what, size_t bytes, const char *restored, Action restore, Action run, const char *third, Action third_run,
                 Case *c) {
-    agree(what, c, restore, run);
+    if (restore != NULL)
+        restore(c, NULL);
+    agree(what, c, run);
     Subject s[3] = {{.run = run, .calls = &library}, {.run = run, .calls = &plain}, {.run = third_run, .calls = &library}};
-    measure(c, restore, s, 3, rounds_for(bytes));
+    measure(what, c, restore, s, 3, rounds_for(bytes));
     say(group, what, bytes, restored, third, s);
 }
 
@@ -240,7 +258,7 @@ static void restore_count(Case *c, const Calls *calls) {
     memcpy(c->buffer, c->file->bytes, 32);
 }
 
-// A name of n characters that no read of the file bears.
+// A name that no read of the files bears, of up to 31 characters.
 static const uint8_t *other_name(size_t i) {
     static uint8_t name[40];
     snprintf((char *)name, sizeof name, "other%09zuabcdefghijklmnopq", i);
@@ -248,7 +266,7 @@ static const uint8_t *other_name(size_t i) {
 }
 
 // Ten growing renames of the first reads, each after the other, beside ten renames that keep the size; a clip record before either, so that the file is
-// tested in both alike. The difference is the moves alone.
+// tested in both alike. What lies between is the time of the moves.
 static void moves_up(Case *c) {
     static uint8_t moving[(MOVES + 1) * RECORD], still[(MOVES + 1) * RECORD];
     make_clip(moving, c->file, 0);
@@ -277,13 +295,14 @@ static void moves_down(Case *c) {
     c->list_size = sizeof moving;
 }
 
-// Two rows, with the moves and without them: what lies between is their time.
+// Two rows, with the moves and without them.
 static void moves_row(const char *what, size_t bytes, Action memory, Case *c) {
-    agree(what, c, restore_file, run_list);
-    agree(what, c, restore_file, run_still);
+    restore_file(c, NULL);
+    agree(what, c, run_list);
+    agree(what, c, run_still);
     Subject s[6] = {{.run = run_list, .calls = &library},  {.run = run_list, .calls = &plain},  {.run = memory},
                     {.run = run_still, .calls = &library}, {.run = run_still, .calls = &plain}, {.run = nothing}};
-    measure(c, restore_file, s, 6, rounds_for(bytes));
+    measure(what, c, restore_file, s, 6, rounds_for(bytes));
     say("moving", what, bytes, "file", "memmove", s);
     say("still", what, bytes, "file", "nothing", s + 3);
 }
@@ -313,12 +332,6 @@ static void file_rows(size_t bytes) {
     c.reads = &read;
     row("files", "append of a read", bytes, "count", restore_count, run_append, "memcpy", copy_file, &c);
 
-    moves_up(&c);
-    moves_row("move up by 8", bytes, move_up, &c);
-    moves_down(&c);
-    moves_row("move down by a read, end zeroed", bytes, move_down, &c);
-
-    restore_file(&c, NULL);
     for (size_t n = 1; n <= 10000; n *= 10) {
         char what[64];
         uint8_t *list = make_clip_list(&file, n);
@@ -330,6 +343,18 @@ static void file_rows(size_t bytes) {
     }
     free(c.buffer);
     free(c.spare);
+    drop_file(&file);
+}
+
+static void move_rows(size_t bytes) {
+    File file = make_long_file(bytes, MOVES);
+    Case c = {.file = &file, .room = file.length + 8192};
+    c.buffer = room_of(c.room);
+    moves_up(&c);
+    moves_row("move up by 8", bytes, move_up, &c);
+    moves_down(&c);
+    moves_row("move down by a read, end zeroed", bytes, move_down, &c);
+    free(c.buffer);
     drop_file(&file);
 }
 
@@ -503,6 +528,8 @@ int main(int argc, char **argv) {
 
     file_rows(MEGABYTE);
     file_rows(100 * MEGABYTE);
+    move_rows(MEGABYTE);
+    move_rows(100 * MEGABYTE);
     small_file_row();
     growth_row(MEGABYTE / 10);
     growth_row(MEGABYTE);

@@ -75,16 +75,27 @@ void make_read(Read *read, uint64_t number, uint64_t *state) {
     read->clips = (uint64_t)5 << 48 | right << 32;
 }
 
-static size_t size_of(const Read *read) { return up8(16 + NAME_LENGTH) + up8(2 * FLOWS + 3 * read->bases); }
-
-static void put_read(uint8_t *s, const Read *read) {
-    size_t n = read->bases;
+static void put_section(uint8_t *s, const uint8_t name[NAME_LENGTH], size_t bases, uint64_t clips) {
     put16(s, up8(16 + NAME_LENGTH));
     put16(s + 2, NAME_LENGTH);
-    put32(s + 4, n);
+    put32(s + 4, bases);
     for (int i = 0; i < 4; i++)
-        put16(s + 8 + 2 * i, read->clips >> (48 - 16 * i) & 65535);
-    memcpy(s + 16, read->name, NAME_LENGTH);
+        put16(s + 8 + 2 * i, clips >> (48 - 16 * i) & 65535);
+    memcpy(s + 16, name, NAME_LENGTH);
+}
+
+static size_t size_of(size_t bases) { return up8(16 + NAME_LENGTH) + up8(2 * FLOWS + 3 * bases); }
+
+static void counted(File *file, size_t size) {
+    file->places[file->reads++] = file->length;
+    file->length += size;
+    put32(file->bytes + 20, file->reads);
+}
+
+static void add_read(File *file, const Read *read) {
+    size_t n = read->bases;
+    uint8_t *s = file->bytes + file->length;
+    put_section(s, read->name, n, read->clips);
     s += up8(16 + NAME_LENGTH);
     for (int i = 0; i < FLOWS; i++)
         put16(s + 2 * i, read->values[i]);
@@ -92,14 +103,13 @@ static void put_read(uint8_t *s, const Read *read) {
     memcpy(s, read->increments, n);
     memcpy(s + n, read->called, n);
     memcpy(s + 2 * n, read->qualities, n);
+    counted(file, size_of(n));
 }
 
-File make_file(size_t about) {
-    uint64_t state = 454;
+static File start_file(size_t about) {
     size_t header = up8(31 + FLOWS + sizeof key);
     File file = {room_of(about + 65536), header, 0, room_of((about / 1024 + 64) * sizeof(size_t))};
     uint8_t *s = file.bytes;
-    Read read;
     memcpy(s, ".sff", 4);
     s[7] = 1;
     put16(s + 24, header);
@@ -108,15 +118,39 @@ File make_file(size_t about) {
     s[30] = 1;
     flow_characters(s + 31);
     memcpy(s + 31 + FLOWS, key, sizeof key);
+    return file;
+}
+
+File make_file(size_t about) {
+    uint64_t state = 454;
+    File file = start_file(about);
+    Read read;
     for (;;) {
         make_read(&read, file.reads, &state);
-        if (file.length + size_of(&read) > about && file.reads > 0)
-            break;
-        put_read(s + file.length, &read);
-        file.places[file.reads++] = file.length;
-        file.length += size_of(&read);
+        if (file.length + size_of(read.bases) > about && file.reads > 0)
+            return file;
+        add_read(&file, &read);
     }
-    put32(s + 20, file.reads);
+}
+
+File make_long_file(size_t about, size_t reads) {
+    uint64_t state = 454;
+    File file = start_file(about);
+    Read read;
+    while (file.reads < reads) {
+        make_read(&read, file.reads, &state);
+        add_read(&file, &read);
+    }
+    // The rest is one read, a single run of T.
+    size_t n = (about - file.length - size_of(0)) / 3;
+    uint8_t name[NAME_LENGTH], *s = file.bytes + file.length;
+    make_name(name, file.reads);
+    put_section(s, name, n, 0);
+    s += up8(16 + NAME_LENGTH) + 2 * FLOWS;
+    s[0] = 1;
+    memset(s + n, 'T', n);
+    memset(s + 2 * n, 30, n);
+    counted(&file, size_of(n));
     return file;
 }
 

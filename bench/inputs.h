@@ -32,6 +32,8 @@ typedef struct {
 } File;
 
 File make_file(size_t about);
+// The same, but for the last of its reads, which fills it: to look through its names takes no time.
+File make_long_file(size_t about, size_t reads);
 void drop_file(File *file);
 size_t read_size(const File *file, size_t position);
 

@@ -332,6 +332,7 @@ static void file_rows(size_t bytes) {
     c.reads = &read;
     row("files", "append of a read", bytes, "count", restore_count, run_append, "memcpy", copy_file, &c);
 
+    restore_file(&c, NULL);
     for (size_t n = 1; n <= 10000; n *= 10) {
         char what[64];
         uint8_t *list = make_clip_list(&file, n);

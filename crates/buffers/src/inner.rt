@@ -75,14 +75,14 @@ pub fn copy(s: &mut [u8], at: usize, source: &[u8], from: usize, n: usize)
     }
 }
 
-// Moves the 4,096 bytes from `from` on to `to`, however the two overlap. The compiler makes one call of memmove of the two copies, and no array.
+// Moves the 16,384 bytes from `from` on to `to`, however the two overlap. The compiler makes one call of memmove of the two copies, and no array.
 fn move_block(s: &mut [u8], from: usize, to: usize)
-    requires { ⌜ (from + 4096 ≤ length (now s)) × (to + 4096 ≤ length (now s)) ⌝ }
-    ensures { λ _. ⌜ now (s .exit) ≡ putAt to (part from 4096 (now (s .entry))) (now (s .entry)) ⌝ }
+    requires { ⌜ (from + 16384 ≤ length (now s)) × (to + 16384 ≤ length (now s)) ⌝ }
+    ensures { λ _. ⌜ now (s .exit) ≡ putAt to (part from 16384 (now (s .entry))) (now (s .entry)) ⌝ }
 {
-    let mut block = [0; 4096];
-    copy(&mut block, 0, s, from, 4096);
-    copy(s, to, &block, 0, 4096);
+    let mut block = [0; 16384];
+    copy(&mut block, 0, s, from, 16384);
+    copy(s, to, &block, 0, 16384);
 }
 
 fn bytes_up(s: &mut [u8], from: usize, to: usize, n: usize)
@@ -102,8 +102,8 @@ pub fn move_up(s: &mut [u8], from: usize, to: usize, n: usize)
     ensures { λ _. ⌜ now (s .exit) ≡ putAt to (part from n (now (s .entry))) (now (s .entry)) ⌝ }
 {
     let mut j = n;
-    while 4096 <= j {
-        j -= 4096;
+    while 16384 <= j {
+        j -= 16384;
         move_block(s, from + j, to + j);
     }
     bytes_up(s, from, to, j);
@@ -126,9 +126,9 @@ pub fn move_down(s: &mut [u8], from: usize, to: usize, n: usize)
     ensures { λ _. ⌜ now (s .exit) ≡ putAt to (part from n (now (s .entry))) (now (s .entry)) ⌝ }
 {
     let mut j = 0;
-    while j + 4096 <= n {
+    while j + 16384 <= n {
         move_block(s, from + j, to + j);
-        j += 4096;
+        j += 16384;
     }
     bytes_down(s, from + j, to + j, n - j);
 }

@@ -18,4 +18,4 @@ move-block-spec =
     (λ c.
     let d = c .before .before in
     let a = d .before .before .before .before .before .before .before .before .args in
-    moved-through (a .from) (a .to) 4096 (replicate 4096 0) (a .s .now) (length-replicate {A = ℕ} 4096 0) (omega arith) (d .before .before .before .before .copy .ensures) (d .copy2 .ensures)))
+    moved-through (a .from) (a .to) 16384 (replicate 16384 0) (a .s .now) (length-replicate {A = ℕ} 16384 0) (omega arith) (d .before .before .before .before .copy .ensures) (d .copy2 .ensures)))

@@ -25,7 +25,7 @@ move-up-spec =
     (λ c. search moves)
     (λ c κs. search moves)
     (λ c. search moves)
-    (λ c. let l = c .before .before .before .before in down-block (l .before .loop .inv) (omega arith) 4096 (l .loop-test .taken) (c .before .before .move-block .ensures))
+    (λ c. let l = c .before .before .before .before in down-block (l .before .loop .inv) (omega arith) 16384 (l .loop-test .taken) (c .before .before .move-block .ensures))
     (λ c κs. search moves)
     (λ c. search moves)
     (λ c. search (down-last, needs)))

@@ -1,5 +1,6 @@
 # Prints the table of the rows in the results of the four programs: group|what|bytes|restored|third|best and median of library, plain C and the third.
-# A time is the best of all rounds of the four programs; beside it stands the ratio by medians: the median of the programs' medians.
+# A time is the best of all rounds of the four programs; beside it stands the ratio by medians: the median of the programs' medians. A move is the
+# difference of two times, so it is taken within each program, and of the four the median.
 BEGIN { FS = "|"; LIBRARY = 6; PLAIN = 8; THIRD = 10; MOVES = 10 }
 
 {
@@ -15,14 +16,17 @@ function best(row, column,    i, least) {
     return least
 }
 
-# The median over the programs of the medians, which stand behind the bests.
-function middle(row, column,    n, i, j, t, v) {
-    n = seen[row]
-    for (i = 1; i <= n; i++) v[i] = value[row, i, column + 1]
+function median(v, n,    i, j, t) {
     for (i = 1; i <= n; i++)
         for (j = i + 1; j <= n; j++)
             if (v[j] < v[i]) { t = v[i]; v[i] = v[j]; v[j] = t }
     return n % 2 ? v[(n + 1) / 2] : (v[n / 2] + v[n / 2 + 1]) / 2
+}
+
+# The median over the programs of the medians, which stand behind the bests.
+function middle(row, column,    i, v) {
+    for (i = 1; i <= seen[row]; i++) v[i] = value[row, i, column + 1]
+    return median(v, seen[row])
 }
 
 # The least and the greatest ratio of two bests in one program.
@@ -54,27 +58,36 @@ function section(name, title, beside,    i, row, l, p, t) {
     }
 }
 
-# One move: the list with the moves less the one without them.
-function move(row, column,    still) {
+# One move in program i: the list with the moves less the one without them.
+function move(row, i, column,    still) {
     still = row
     sub("^moving", "still", still)
-    return (best(row, column) - best(still, column)) / MOVES
+    return (value[row, i, column] - value[still, i, column]) / MOVES
 }
 
-function middle_move(row, column,    still) {
-    still = row
-    sub("^moving", "still", still)
-    return (middle(row, column) - middle(still, column)) / MOVES
+# The median over the programs: of a move, of memmove, and of one to the other.
+function middle_move(row, column,    i, v) {
+    for (i = 1; i <= seen[row]; i++) v[i] = move(row, i, column)
+    return median(v, seen[row])
 }
 
-function moves(    i, row, l, p, t) {
+function middle_memmove(row,    i, v) {
+    for (i = 1; i <= seen[row]; i++) v[i] = value[row, i, THIRD] / MOVES
+    return median(v, seen[row])
+}
+
+function to_memmove(row, column,    i, v) {
+    for (i = 1; i <= seen[row]; i++) v[i] = move(row, i, column) * MOVES / value[row, i, THIRD]
+    return median(v, seen[row])
+}
+
+function moves(    i, row) {
     printf "\nThe move alone\n\n"
-    printf "| What | Size | Library | Plain C | memmove | / C | / memmove | / memmove, medians |\n|---|---|---|---|---|---|---|---|\n"
+    printf "| What | Size | Library | Plain C | memmove | Library / memmove | Plain C / memmove |\n|---|---|---|---|---|---|---|\n"
     for (i = 1; i <= rows; i++) {
         row = order[i]
-        if (group[row] != "moving") continue
-        l = move(row, LIBRARY); p = move(row, PLAIN); t = best(row, THIRD) / MOVES
-        printf "| %s | %s | %s | %s | %s | %.2f | %.2f | %.2f |\n", what[row], size_of(bytes[row]), shown(l), shown(p), shown(t), l / p, l / t, middle_move(row, LIBRARY) * MOVES / middle(row, THIRD)
+        if (group[row] == "moving")
+            printf "| %s | %s | %s | %s | %s | %.2f | %.2f |\n", what[row], size_of(bytes[row]), shown(middle_move(row, LIBRARY)), shown(middle_move(row, PLAIN)), shown(middle_memmove(row)), to_memmove(row, LIBRARY), to_memmove(row, PLAIN)
     }
 }
 
@@ -97,9 +110,9 @@ function targets(    size, row) {
     }
     for (size = 1000000; size <= 100000000; size *= 100) {
         row = "moving|move up by 8|" size
-        target("move up by 8 / memmove, " size_of(size), move(row, LIBRARY) * MOVES / best(row, THIRD), 1.2)
+        target("move up by 8 / memmove, " size_of(size), to_memmove(row, LIBRARY), 1.2)
         row = "moving|move down by a read, end zeroed|" size
-        target("move down by a read, end zeroed / memmove and memset, " size_of(size), move(row, LIBRARY) * MOVES / best(row, THIRD), 1.2)
+        target("move down by a read, end zeroed / memmove and memset, " size_of(size), to_memmove(row, LIBRARY), 1.2)
     }
     for (size = 1000000; size <= 100000000; size *= 100) {
         row = "lists|1000 records|" size

@@ -460,7 +460,7 @@ static inline void put_unit(uint8_t *s, unsigned w, uint32_t v) {
 // The unit at i.
 static inline uint32_t unit_at(const uint8_t *s, size_t i, unsigned w) { return get_unit(s + i * w, w); }
 
-// All levels in one pass: a unit less what the units before it predict, as the Staden package's io_lib does it. Units are computed at 32 bits; the low
+// All levels in one pass: a unit less what the units before it predict. Units are computed at 32 bits; the low
 // bytes are the unit's.
 static inline void delta_of(const uint8_t *restrict from, uint8_t *restrict to, size_t n, unsigned w, uint64_t level) {
     size_t units = n / w;

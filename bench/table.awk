@@ -107,6 +107,8 @@ function targets(    size, row) {
     for (size = 1000000; size <= 100000000; size *= 100) {
         row = "files|whole-file test|" size
         target("whole-file test / plain C, " size_of(size), best(row, LIBRARY) / best(row, PLAIN), 1.1)
+        row = "files|whole-file test, by the service|" size
+        target("whole-file test by the service / plain C, " size_of(size), best(row, LIBRARY) / best(row, PLAIN), 1.1)
     }
     for (size = 1000000; size <= 100000000; size *= 100) {
         row = "moving|move up by 8|" size

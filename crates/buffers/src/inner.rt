@@ -85,6 +85,7 @@ fn move_block(s: &mut [u8], from: usize, to: usize)
     copy(s, to, &block, 0, 16384);
 }
 
+// What is left of a move up once no whole block is: the last byte first.
 fn bytes_up(s: &mut [u8], from: usize, to: usize, n: usize)
     requires { ⌜ (from ≤ to) × (to + n ≤ length (now s)) ⌝ }
     ensures { λ _. ⌜ now (s .exit) ≡ putAt to (part from n (now (s .entry))) (now (s .entry)) ⌝ }
@@ -109,6 +110,7 @@ pub fn move_up(s: &mut [u8], from: usize, to: usize, n: usize)
     bytes_up(s, from, to, j);
 }
 
+// What is left of a move down: the first byte first.
 fn bytes_down(s: &mut [u8], from: usize, to: usize, n: usize)
     requires { ⌜ (to ≤ from) × (from + n ≤ length (now s)) ⌝ }
     ensures { λ _. ⌜ now (s .exit) ≡ putAt to (part from n (now (s .entry))) (now (s .entry)) ⌝ }

@@ -12,7 +12,11 @@ use Rattle.answers.specs.declared.Answer.{Answer}
 use Rattle.answers.specs.declared.Answer.the-variants.{Accepted}
 use Rattle.filter_format.specs.declared.Filtered.{Filtered}
 use Rattle.filter_format.specs.Undo.{Result, making, refusing, filtered, secondAfter}
-use Rattle.filters.specs.Sides.{Undid}
+use Rattle.filters.specs.Sides.{after}
+
+-- the answer and both buffers after a call, where `is-first` says whether `here` is the caller's first: the three promises of a function that undoes
+abbrev pub Undid : Result → Bool → List ℕ → List ℕ → List ℕ → List ℕ → Filtered → Type 0
+Undid result is-first here here' there there' r = (r ≡ filtered result) × ((here' ≡ after is-first result here) × (there' ≡ after (not is-first) result there))
 
 pub clear : (n : ℕ) (s : List ℕ) → n ≤ length s → putAt n (replicate (length s - n) 0) s ≡ filled (length s) (take n s)
 unfolding putAt filled
@@ -49,22 +53,22 @@ module _ {n : ℕ} {xs s s₁ : List ℕ} (m : Holds n xs s s₁) where
   -- and the other buffer zeroed: a call that makes xs
   pub placed : {s₂ t' : List ℕ} (t : List ℕ) → s₂ ≡ filled (length s₁) (take n s₁) → t' ≡ secondAfter t
       → Undid (making xs) true s s₂ t t' (record { answer = Accepted; made = n })
-  placed t e g = (rw (m .count), held-filled e, g)
+  placed t e g = (rw (m .count), (held-filled e, g))
 
 -- the same of another list of the same length
 pub as-long : (result : Result) (first : Bool) {here' there' : List ℕ} {r : Filtered} (here₁ here there : List ℕ) → length here₁ ≡ length here
     → Undid result first here₁ here' there there' r → Undid result first here here' there there' r
-as-long result true here₁ here there e u = (u .0, u .1 ∙ ap (λ (n : ℕ). filled n (result .bytes)) e, u .2)
-as-long result false here₁ here there e u = (u .0, u .1 ∙ ap (λ (n : ℕ). filled n []) e, u .2)
+as-long result true here₁ here there e u = (u .0, (u .1 .0 ∙ ap (λ (n : ℕ). filled n (result .bytes)) e, u .1 .1))
+as-long result false here₁ here there e u = (u .0, (u .1 .0 ∙ ap (λ (n : ℕ). filled n []) e, u .1 .1))
 
 -- the buffers having changed places
 pub swapped : (result : Result) (first : Bool) {here' there' : List ℕ} {r : Filtered} (here there : List ℕ)
     → Undid result (not first) there there' here here' r → Undid result first here here' there there' r
-swapped result true here there u = (u .0, u .2, u .1)
-swapped result false here there u = (u .0, u .2, u .1)
+swapped result true here there u = (u .0, (u .1 .1, u .1 .0))
+swapped result false here there u = (u .0, (u .1 .1, u .1 .0))
 
 -- both zeroed
 pub refused : (a : Answer) (first : Bool) {here' there' : List ℕ} {r : Filtered} (here there : List ℕ)
-    → (r ≡ filtered (refusing a)) × (here' ≡ secondAfter here) × (there' ≡ secondAfter there) → Undid (refusing a) first here here' there there' r
+    → (r ≡ filtered (refusing a)) × ((here' ≡ secondAfter here) × (there' ≡ secondAfter there)) → Undid (refusing a) first here here' there there' r
 refused a true here there u = u
 refused a false here there u = u

@@ -17,8 +17,7 @@ use Rattle.filter_format.specs.declared.Filtered.{Filtered}
 use Rattle.filter_format.specs.Block.{filterAt, isRaw, headerLength, undone}
 use Rattle.filter_format.specs.Undo.{making, refusing, filtered, secondAfter, roomOf, blockTest, layerTest, undoFrom, undoLayer}
 use Rattle.filter_block.specs.Tests.{Opens}
-use Rattle.filters.specs.Sides.{Undid}
-use Rattle.filters.proofs.Buffers.{Holds, held-length, held-front, placed, as-long, swapped, refused}
+use Rattle.filters.proofs.Buffers.{Undid, Holds, held-length, held-front, placed, as-long, swapped, refused}
 use Rattle.filters.proofs.Chain.{undo-refused, undo-raw, undo-layer, block-opens, layer-opens, raw-is, raw-part}
 
 -- what the code was told of a block b: the room between two buffers, its filter, and the answer of its tests
@@ -40,7 +39,7 @@ module _ {left room : ℕ} {f : Filter} {answer : Answer} {b here there : List �
   told-accepted ok = record { is-filter = t .is-filter; accepts = sym test ∙ ok }
 
   pub chosen-refused : {n p : ℕ} {here' there' : List ℕ} {r : Filtered} (first : Bool) → answer ≡ Refused n p
-      → (r ≡ filtered (refusing (Refused n p))) × (here' ≡ secondAfter here) × (there' ≡ secondAfter there)
+      → (r ≡ filtered (refusing (Refused n p))) × ((here' ≡ secondAfter here) × (there' ≡ secondAfter there))
       → Undid (undoFrom left (roomOf here there) b) first here here' there there' r
   chosen-refused first e u = rw (undo-refused left (roomOf here there) b _ _ (sym test ∙ e)) (refused (Refused _ _) first here there u)
 
@@ -116,7 +115,7 @@ module _ {left len : ℕ} {f : Filter} {here there : List ℕ} (d : Data left le
 
     pub chosen-there : first ≡ false → Undid (making (part 1 (len - 1) here)) true there there' here here' r
         → Undid (undoFrom left (roomOf here there) (take len here)) first here here' there there' r
-    chosen-there e u = rw (e, result) (u .0, u .2, u .1)
+    chosen-there e u = rw (e, result) (u .0, (u .1 .1, u .1 .0))
 
 -- a block xs was put at the front of `there`, and the choice made there
 module _ {n : ℕ} {xs there there₁ here' there' : List ℕ} {r : Filtered} (m : Holds n xs there there₁) (left : ℕ) (first : Bool) (here : List ℕ) where
@@ -135,10 +134,6 @@ module _ {n : ℕ} {xs there there₁ here' there' : List ℕ} {r : Filtered} (m
       let room : roomOf here there ≡ roomOf there here = min-comm (length here) (length there) in
       rw room (swapped (undoFrom left (roomOf there here) xs) first here there (handed m left (not first) here u))
 
--- an entry point promises each of the three by itself
-pub each : {A B C : Type 0} → A × B × C → A × (B × C)
-each u = (u .0, (u .1, u .2))
-
 -- the same of a layer undone alone
 pub record ToldAlone (room : ℕ) (f : Filter) (answer : Answer) (b first second : List ℕ) : Type 0 where
   pub is-room : room ≡ min (length first) (length second)
@@ -150,7 +145,7 @@ module _ {room : ℕ} {f : Filter} {answer : Answer} {b first second : List ℕ}
   layer-tested = t .is-answer ∙ ap (λ (n : ℕ). layerTest n b) (t .is-room)
 
   pub alone-refused : {n p : ℕ} {first' second' : List ℕ} {r : Filtered} → answer ≡ Refused n p
-      → (r ≡ filtered (refusing (Refused n p))) × (first' ≡ secondAfter first) × (second' ≡ secondAfter second)
+      → (r ≡ filtered (refusing (Refused n p))) × ((first' ≡ secondAfter first) × (second' ≡ secondAfter second))
       → Undid (undoLayer (roomOf first second) b) true first first' second second' r
   unfolding undoLayer acceptedOr
   alone-refused e u = rw (sym layer-tested ∙ e) u

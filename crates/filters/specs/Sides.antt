@@ -1,16 +1,10 @@
 -- What the code says of the two buffers while they change places. Assumes nothing: these are definitions.
-use mathlib.Core.Path.{_≡_}
-use mathlib.Core.Bool.{Bool, true, false, not}
+use mathlib.Core.Bool.{Bool, true, false}
 use mathlib.Core.List.{List}
 use Prim.Native.Nat.{ℕ}
-use Rattle.filter_format.specs.declared.Filtered.{Filtered}
-use Rattle.filter_format.specs.Undo.{Result, filtered, firstAfter, secondAfter}
+use Rattle.filter_format.specs.Undo.{Result, firstAfter, secondAfter}
 
 -- what a buffer holds afterwards, by whether it is the caller's first
 abbrev pub after : Bool → Result → List ℕ → List ℕ
 after true result s = firstAfter result s
 after false result s = secondAfter s
-
--- the answer and both buffers after a call, where `is-first` says whether `here` is the caller's first
-abbrev pub Undid : Result → Bool → List ℕ → List ℕ → List ℕ → List ℕ → Filtered → Type 0
-Undid result is-first here here' there there' r = (r ≡ filtered result) × (here' ≡ after is-first result here) × (there' ≡ after (not is-first) result there)

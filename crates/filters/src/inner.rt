@@ -1,15 +1,15 @@
 // No entry points: the blocks here stand in one of the two lent buffers. `choose` and `layer` call each other; at each layer the buffers change places and
 // one filter less may be opened.
 ghost use mathlib.Core.Path.{_≡_};
-ghost use mathlib.Core.Bool.{not, true};
+ghost use mathlib.Core.Bool.{not};
 ghost use Prim.Native.Nat.{_-_, _<_, _≤_, min};
 ghost use lib.ListN.{length, take};
 ghost use Rattle.octets.specs.Parts.{part, filled};
 ghost use Rattle.answers.specs.declared.Answer.the-variants.{Refused};
 ghost use Rattle.filter_format.specs.Block.{filterAt, undone};
-ghost use Rattle.filter_format.specs.Undo.{filtered, refusing, making, secondAfter, roomOf, blockTest, layerTest, undoFrom};
+ghost use Rattle.filter_format.specs.Undo.{filtered, refusing, making, firstAfter, secondAfter, roomOf, blockTest, layerTest, undoFrom};
 ghost use Rattle.filter_block.specs.Tests.{Opens};
-ghost use Rattle.filters.specs.Sides.{Undid};
+ghost use Rattle.filters.specs.Sides.{after};
 use answers::Answer;
 use buffers::inner::copy;
 use buffers::inner::fill;
@@ -72,7 +72,9 @@ pub fn clear_behind(s: &mut [u8], n: usize)
 
 // A refusal zeroes both buffers.
 pub(crate) fn refuse(first: &mut [u8], second: &mut [u8], number: u8, place: usize) -> Filtered
-    ensures { λ r. ⌜ (r ≡ filtered (refusing (Refused number place))) × (now (first .exit) ≡ secondAfter (now (first .entry))) × (now (second .exit) ≡ secondAfter (now (second .entry))) ⌝ }
+    ensures { λ r. ⌜ r ≡ filtered (refusing (Refused number place)) ⌝ }
+    ensures { λ _. ⌜ now (first .exit) ≡ secondAfter (now (first .entry)) ⌝ }
+    ensures { λ _. ⌜ now (second .exit) ≡ secondAfter (now (second .entry)) ⌝ }
 {
     clear_behind(first, 0);
     clear_behind(second, 0);
@@ -85,7 +87,9 @@ pub(crate) fn refuse(first: &mut [u8], second: &mut [u8], number: u8, place: usi
 // The n bytes of data behind the format byte of `here`, which is the caller's first buffer.
 fn keep(here: &mut [u8], there: &mut [u8], n: usize) -> Filtered
     requires { ⌜ n < length (now here) ⌝ }
-    ensures { λ r. ⌜ Undid (making (part 1 n (now (here .entry)))) true (now (here .entry)) (now (here .exit)) (now (there .entry)) (now (there .exit)) r ⌝ }
+    ensures { λ r. ⌜ r ≡ filtered (making (part 1 n (now (here .entry)))) ⌝ }
+    ensures { λ _. ⌜ now (here .exit) ≡ firstAfter (making (part 1 n (now (here .entry)))) (now (here .entry)) ⌝ }
+    ensures { λ _. ⌜ now (there .exit) ≡ secondAfter (now (there .entry)) ⌝ }
 {
     move_down(here, 1, 0, n);
     clear_behind(here, n);
@@ -99,7 +103,9 @@ fn keep(here: &mut [u8], there: &mut [u8], n: usize) -> Filtered
 // The same where `there` is the first.
 fn hand_over(here: &mut [u8], there: &mut [u8], n: usize) -> Filtered
     requires { ⌜ (n < length (now here)) × (n ≤ length (now there)) ⌝ }
-    ensures { λ r. ⌜ Undid (making (part 1 n (now (here .entry)))) true (now (there .entry)) (now (there .exit)) (now (here .entry)) (now (here .exit)) r ⌝ }
+    ensures { λ r. ⌜ r ≡ filtered (making (part 1 n (now (here .entry)))) ⌝ }
+    ensures { λ _. ⌜ now (there .exit) ≡ firstAfter (making (part 1 n (now (here .entry)))) (now (there .entry)) ⌝ }
+    ensures { λ _. ⌜ now (here .exit) ≡ secondAfter (now (here .entry)) ⌝ }
 {
     copy(there, 0, here, 1, n);
     clear_behind(there, n);
@@ -119,8 +125,9 @@ pub(crate) fn choose(
     is_first: bool,
 ) -> Filtered
     requires { ⌜ len ≤ length (now here) ⌝ }
-    ensures { λ r. ⌜ Undid (undoFrom left (roomOf (now (here .entry)) (now (there .entry))) (take len (now (here .entry)))) «is_first»
-        (now (here .entry)) (now (here .exit)) (now (there .entry)) (now (there .exit)) r ⌝ }
+    ensures { λ r. ⌜ r ≡ filtered (undoFrom left (roomOf (now (here .entry)) (now (there .entry))) (take len (now (here .entry)))) ⌝ }
+    ensures { λ _. ⌜ now (here .exit) ≡ after «is_first» (undoFrom left (roomOf (now (here .entry)) (now (there .entry))) (take len (now (here .entry)))) (now (here .entry)) ⌝ }
+    ensures { λ _. ⌜ now (there .exit) ≡ after (not «is_first») (undoFrom left (roomOf (now (here .entry)) (now (there .entry))) (take len (now (here .entry)))) (now (there .entry)) ⌝ }
 {
     let room = smaller(here.len(), there.len());
     let filter = filter_at(&here[..len]);
@@ -148,8 +155,9 @@ fn layer(
     filter: Filter,
 ) -> Filtered
     requires { ⌜ (0 < left) × (len ≤ length (now here)) × (Opens filter (take len (now here)) (length (now there))) ⌝ }
-    ensures { λ r. ⌜ Undid (undoFrom (left - 1) (roomOf (now (here .entry)) (now (there .entry))) (undone filter (take len (now (here .entry))))) «is_first»
-        (now (here .entry)) (now (here .exit)) (now (there .entry)) (now (there .exit)) r ⌝ }
+    ensures { λ r. ⌜ r ≡ filtered (undoFrom (left - 1) (roomOf (now (here .entry)) (now (there .entry))) (undone filter (take len (now (here .entry))))) ⌝ }
+    ensures { λ _. ⌜ now (here .exit) ≡ after «is_first» (undoFrom (left - 1) (roomOf (now (here .entry)) (now (there .entry))) (undone filter (take len (now (here .entry))))) (now (here .entry)) ⌝ }
+    ensures { λ _. ⌜ now (there .exit) ≡ after (not «is_first») (undoFrom (left - 1) (roomOf (now (here .entry)) (now (there .entry))) (undone filter (take len (now (here .entry))))) (now (there .entry)) ⌝ }
 {
     let made = undo_filter(there, filter, &here[..len]);
     choose(there, here, made, left - 1, !is_first)

@@ -1,5 +1,9 @@
 // Each function asks for the room that it fills, which the crates above have measured, and answers the place after what it put.
-ghost use Rattle.text.specs.Writing.{Room, Wrote};
+ghost use mathlib.Core.Path.{_≡_};
+ghost use Prim.Native.Nat.{_+_};
+ghost use lib.ListN.{length};
+ghost use Rattle.octets.specs.Parts.{putAt};
+ghost use Rattle.text.specs.Writing.{Room};
 ghost use Rattle.lines.specs.Lines.{numberField, wordField, labelledNumber, labelledWord, headerLine, extent, readLine, refusalLine, tooLong, answerLine};
 use text::inner::put_byte;
 use text::inner::put_bytes;
@@ -9,7 +13,8 @@ use text::inner::put_or_dash;
 // Puts a number and the byte that ends it.
 fn put_number_field(out: &mut [u8], at: usize, n: usize, end: u8) -> usize
     requires { ⌜ Room at (numberField n end) (now out) ⌝ }
-    ensures { λ r. ⌜ Wrote at (numberField n end) (now (out .entry)) (now (out .exit)) r ⌝ }
+    ensures { λ r. ⌜ r ≡ at + length (numberField n end) ⌝ }
+    ensures { λ _. ⌜ now (out .exit) ≡ putAt at (numberField n end) (now (out .entry)) ⌝ }
 {
     let next = put_number(out, at, n);
     put_byte(out, next, end)
@@ -18,7 +23,8 @@ fn put_number_field(out: &mut [u8], at: usize, n: usize, end: u8) -> usize
 // Puts a word, "-" where it is empty, and the byte that ends it.
 fn put_word_field(out: &mut [u8], at: usize, word: &[u8], end: u8) -> usize
     requires { ⌜ Room at (wordField (now word) end) (now out) ⌝ }
-    ensures { λ r. ⌜ Wrote at (wordField (now (word .entry)) end) (now (out .entry)) (now (out .exit)) r ⌝ }
+    ensures { λ r. ⌜ r ≡ at + length (wordField (now (word .entry)) end) ⌝ }
+    ensures { λ _. ⌜ now (out .exit) ≡ putAt at (wordField (now (word .entry)) end) (now (out .entry)) ⌝ }
 {
     let next = put_or_dash(out, at, word);
     put_byte(out, next, end)
@@ -27,7 +33,8 @@ fn put_word_field(out: &mut [u8], at: usize, word: &[u8], end: u8) -> usize
 // Puts a number behind its label.
 fn put_labelled_number(out: &mut [u8], at: usize, label: &[u8], n: usize, end: u8) -> usize
     requires { ⌜ Room at (labelledNumber (now label) n end) (now out) ⌝ }
-    ensures { λ r. ⌜ Wrote at (labelledNumber (now (label .entry)) n end) (now (out .entry)) (now (out .exit)) r ⌝ }
+    ensures { λ r. ⌜ r ≡ at + length (labelledNumber (now (label .entry)) n end) ⌝ }
+    ensures { λ _. ⌜ now (out .exit) ≡ putAt at (labelledNumber (now (label .entry)) n end) (now (out .entry)) ⌝ }
 {
     let next = put_bytes(out, at, label);
     put_number_field(out, next, n, end)
@@ -36,7 +43,8 @@ fn put_labelled_number(out: &mut [u8], at: usize, label: &[u8], n: usize, end: u
 // Puts a word behind its label.
 fn put_labelled_word(out: &mut [u8], at: usize, label: &[u8], word: &[u8], end: u8) -> usize
     requires { ⌜ Room at (labelledWord (now label) (now word) end) (now out) ⌝ }
-    ensures { λ r. ⌜ Wrote at (labelledWord (now (label .entry)) (now (word .entry)) end) (now (out .entry)) (now (out .exit)) r ⌝ }
+    ensures { λ r. ⌜ r ≡ at + length (labelledWord (now (label .entry)) (now (word .entry)) end) ⌝ }
+    ensures { λ _. ⌜ now (out .exit) ≡ putAt at (labelledWord (now (label .entry)) (now (word .entry)) end) (now (out .entry)) ⌝ }
 {
     let next = put_bytes(out, at, label);
     put_word_field(out, next, word, end)
@@ -45,7 +53,8 @@ fn put_labelled_word(out: &mut [u8], at: usize, label: &[u8], word: &[u8], end: 
 // Puts the line of a header.
 pub fn put_header_line(out: &mut [u8], at: usize, flows: usize, key: &[u8], reads: usize) -> usize
     requires { ⌜ Room at (headerLine flows (now key) reads) (now out) ⌝ }
-    ensures { λ r. ⌜ Wrote at (headerLine flows (now (key .entry)) reads) (now (out .entry)) (now (out .exit)) r ⌝ }
+    ensures { λ r. ⌜ r ≡ at + length (headerLine flows (now (key .entry)) reads) ⌝ }
+    ensures { λ _. ⌜ now (out .exit) ≡ putAt at (headerLine flows (now (key .entry)) reads) (now (out .entry)) ⌝ }
 {
     let next = put_labelled_number(out, at, b"flows ", flows, b' ');
     let after = put_labelled_word(out, next, b"key ", key, b' ');
@@ -55,7 +64,8 @@ pub fn put_header_line(out: &mut [u8], at: usize, flows: usize, key: &[u8], read
 // Puts a read's number of bases, and the first and the last base of its insert.
 fn put_extent(out: &mut [u8], at: usize, bases: usize, first: usize, last: usize) -> usize
     requires { ⌜ Room at (extent bases first last) (now out) ⌝ }
-    ensures { λ r. ⌜ Wrote at (extent bases first last) (now (out .entry)) (now (out .exit)) r ⌝ }
+    ensures { λ r. ⌜ r ≡ at + length (extent bases first last) ⌝ }
+    ensures { λ _. ⌜ now (out .exit) ≡ putAt at (extent bases first last) (now (out .entry)) ⌝ }
 {
     let next = put_number_field(out, at, bases, b' ');
     let after = put_number_field(out, next, first, b' ');
@@ -74,7 +84,8 @@ pub fn put_read_line(
     insert: &[u8],
 ) -> usize
     requires { ⌜ Room at (readLine position (now name) bases first last (now insert)) (now out) ⌝ }
-    ensures { λ r. ⌜ Wrote at (readLine position (now (name .entry)) bases first last (now (insert .entry))) (now (out .entry)) (now (out .exit)) r ⌝ }
+    ensures { λ r. ⌜ r ≡ at + length (readLine position (now (name .entry)) bases first last (now (insert .entry))) ⌝ }
+    ensures { λ _. ⌜ now (out .exit) ≡ putAt at (readLine position (now (name .entry)) bases first last (now (insert .entry))) (now (out .entry)) ⌝ }
 {
     let next = put_number_field(out, at, position, b' ');
     let after = put_word_field(out, next, name, b' ');
@@ -85,7 +96,8 @@ pub fn put_read_line(
 // Puts the line of a refusal.
 pub fn put_refusal_line(out: &mut [u8], at: usize, number: usize, place: usize) -> usize
     requires { ⌜ Room at (refusalLine number place) (now out) ⌝ }
-    ensures { λ r. ⌜ Wrote at (refusalLine number place) (now (out .entry)) (now (out .exit)) r ⌝ }
+    ensures { λ r. ⌜ r ≡ at + length (refusalLine number place) ⌝ }
+    ensures { λ _. ⌜ now (out .exit) ≡ putAt at (refusalLine number place) (now (out .entry)) ⌝ }
 {
     let next = put_labelled_number(out, at, b"refused ", number, b' ');
     put_labelled_number(out, next, b"at ", place, b'\n')
@@ -94,7 +106,8 @@ pub fn put_refusal_line(out: &mut [u8], at: usize, number: usize, place: usize) 
 // Puts the line of an input that is too long.
 pub fn put_too_long(out: &mut [u8], at: usize) -> usize
     requires { ⌜ Room at tooLong (now out) ⌝ }
-    ensures { λ r. ⌜ Wrote at tooLong (now (out .entry)) (now (out .exit)) r ⌝ }
+    ensures { λ r. ⌜ r ≡ at + length tooLong ⌝ }
+    ensures { λ _. ⌜ now (out .exit) ≡ putAt at tooLong (now (out .entry)) ⌝ }
 {
     put_bytes(out, at, b"too long\n")
 }
@@ -106,13 +119,14 @@ pub fn put_answer_line(
     count: usize,
     number: usize,
     place: usize,
-    length: usize,
+    size: usize,
 ) -> usize
-    requires { ⌜ Room at (answerLine count number place length) (now out) ⌝ }
-    ensures { λ r. ⌜ Wrote at (answerLine count number place length) (now (out .entry)) (now (out .exit)) r ⌝ }
+    requires { ⌜ Room at (answerLine count number place size) (now out) ⌝ }
+    ensures { λ r. ⌜ r ≡ at + length (answerLine count number place size) ⌝ }
+    ensures { λ _. ⌜ now (out .exit) ≡ putAt at (answerLine count number place size) (now (out .entry)) ⌝ }
 {
     let next = put_labelled_number(out, at, b"count ", count, b' ');
     let after = put_labelled_number(out, next, b"number ", number, b' ');
     let end = put_labelled_number(out, after, b"place ", place, b' ');
-    put_labelled_number(out, end, b"length ", length, b'\n')
+    put_labelled_number(out, end, b"length ", size, b'\n')
 }

@@ -22,7 +22,8 @@ use Rattle.sff_format.proofs.ReadLaid.{fits-16}
 use Rattle.sff_format.proofs.Views.{name-viewed}
 use Rattle.sff_format.proofs.Inserted.{size-viewed, first-viewed, last-viewed, insert-viewed}
 use Rattle.sff_format.proofs.Steps.{read-fits}
-use Rattle.text.specs.Writing.{Room, Wrote}
+use Rattle.text.specs.Writing.{Room}
+use Rattle.text.proofs.Writing.{Wrote}
 use Rattle.text.proofs.Coming.{Coming, coming-start, coming-room, coming-put, coming-done}
 use Rattle.lines.specs.Lines.{readLine}
 use Rattle.listing.specs.Listing.{lineOf, linesFrom, viewLine}

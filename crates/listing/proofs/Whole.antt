@@ -16,8 +16,8 @@ use Rattle.sff_format.specs.FileTest.{fileTest}
 use Rattle.sff_format.specs.Parse.{parse}
 use Rattle.sff_format.proofs.HeaderLaws.{fits-31, header-fits, header-sized, characters-length}
 use Rattle.sff_format.proofs.FileLaid.{head-ok, length-parsed}
-use Rattle.text.specs.Writing.{Room, Wrote}
-use Rattle.text.proofs.Writing.{room, Put, nothing-put, text-put}
+use Rattle.text.specs.Writing.{Room}
+use Rattle.text.proofs.Writing.{Wrote, room, Put, nothing-put, text-put}
 use Rattle.lines.specs.Lines.{headerLine, refusalLine, tooLong}
 use Rattle.listing.specs.Listing.{linesFrom, fileLines, listed, listing, enough, listingIn, printed, printedIn}
 use Rattle.listing.proofs.Lengths.{listing-short}

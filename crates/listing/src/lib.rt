@@ -1,7 +1,7 @@
 // The listing of a file, into a lent buffer.
 ghost use mathlib.Core.Path.{_≡_};
 ghost use mathlib.Core.Bool.{not};
-ghost use Prim.Native.Nat.{_≤_, _<_};
+ghost use Prim.Native.Nat.{_+_};
 ghost use lib.Dec.{ltb};
 ghost use lib.ListN.{length};
 ghost use Rattle.octets.specs.Parts.{putAt};
@@ -10,7 +10,7 @@ ghost use Rattle.sff_format.specs.FileTest.{fileTest};
 ghost use Rattle.sff_format.specs.Parse.{parse};
 ghost use Rattle.io.specs.Counts.{Counts};
 ghost use Rattle.sff_header.specs.Header.{headerOf, Small};
-ghost use Rattle.text.specs.Writing.{Room, Wrote};
+ghost use Rattle.text.specs.Writing.{Room};
 ghost use Rattle.listing.specs.Listing.{viewLine, linesFrom, fileLines, enough, listingIn, printedIn};
 use answers::Answer;
 use lines::inner::put_header_line;
@@ -33,7 +33,8 @@ use sff_view::name;
 // Puts a read's line.
 fn put_view_line(file: &[u8], view: ReadView, position: usize, out: &mut [u8], at: usize) -> usize
     requires { ⌜ Room at (viewLine (now file) position view) (now out) ⌝ }
-    ensures { λ r. ⌜ Wrote at (viewLine (now (file .entry)) position view) (now (out .entry)) (now (out .exit)) r ⌝ }
+    ensures { λ r. ⌜ r ≡ at + length (viewLine (now (file .entry)) position view) ⌝ }
+    ensures { λ _. ⌜ now (out .exit) ≡ putAt at (viewLine (now (file .entry)) position view) (now (out .entry)) ⌝ }
 {
     let bases = view.bases.size;
     let first = first_base(view).0;
@@ -56,7 +57,8 @@ fn put_reads(file: &[u8], header: Header, out: &mut [u8], at: usize) -> usize
     requires { ⌜ header ≡ headerOf (now file) ⌝ }
     requires { ⌜ Small header ⌝ }
     requires { ⌜ Room at (linesFrom 0 (parse (now file) .reads)) (now out) ⌝ }
-    ensures { λ r. ⌜ Wrote at (linesFrom 0 (parse (now (file .entry)) .reads)) (now (out .entry)) (now (out .exit)) r ⌝ }
+    ensures { λ r. ⌜ r ≡ at + length (linesFrom 0 (parse (now (file .entry)) .reads)) ⌝ }
+    ensures { λ _. ⌜ now (out .exit) ≡ putAt at (linesFrom 0 (parse (now (file .entry)) .reads)) (now (out .entry)) ⌝ }
 {
     let flows = header.flows;
     let reads = header.reads;
@@ -80,7 +82,8 @@ fn put_reads(file: &[u8], header: Header, out: &mut [u8], at: usize) -> usize
 fn put_file(file: &[u8], out: &mut [u8]) -> usize
     requires { ⌜ fileTest (now file) ≡ Accepted ⌝ }
     requires { ⌜ Room 0 (fileLines (parse (now file))) (now out) ⌝ }
-    ensures { λ r. ⌜ Wrote 0 (fileLines (parse (now (file .entry)))) (now (out .entry)) (now (out .exit)) r ⌝ }
+    ensures { λ r. ⌜ r ≡ length (fileLines (parse (now (file .entry)))) ⌝ }
+    ensures { λ _. ⌜ now (out .exit) ≡ putAt 0 (fileLines (parse (now (file .entry)))) (now (out .entry)) ⌝ }
 {
     let header = header_fields(file);
     let key = stretch(file, 31 + header.flows, header.key_length);

@@ -9,8 +9,8 @@ use Rattle.answers.specs.declared.Answer.{Answer}
 use Rattle.answers.specs.declared.Answer.the-variants.{Accepted, Refused}
 use Rattle.answers.specs.Answer.{numberOf, placeOf}
 use Rattle.sff_correction.specs.declared.ListOutcome.{ListOutcome}
-use Rattle.text.specs.Writing.{Room, Wrote}
-use Rattle.text.proofs.Writing.{room, Put, nothing-put, text-put}
+use Rattle.text.specs.Writing.{Room}
+use Rattle.text.proofs.Writing.{Wrote, room, Put, nothing-put, text-put}
 use Rattle.lines.specs.Lines.{refusalLine, answerLine}
 use Rattle.lines.proofs.Lengths.{refusal-line-short, answer-line-short}
 use Rattle.report.specs.Report.{refusal, reported, enough, inRoom}

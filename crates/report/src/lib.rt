@@ -4,7 +4,7 @@ ghost use mathlib.Core.List.{_++_};
 ghost use lib.ListN.{length};
 ghost use Rattle.octets.specs.Parts.{putAt};
 ghost use Rattle.io.specs.Counts.{Counts};
-ghost use Rattle.text.specs.Writing.{Room, Wrote};
+ghost use Rattle.text.specs.Writing.{Room};
 ghost use Rattle.lines.specs.Lines.{refusalLine, tooLong, answerLine};
 ghost use Rattle.report.specs.Report.{reported, inRoom, isWritten};
 use answers::Answer;
@@ -16,7 +16,8 @@ use sff_correction::ListOutcome;
 // Puts the lines of a run that was refused.
 fn put_refused(out: &mut [u8], count: usize, number: usize, place: usize, size: usize) -> usize
     requires { ⌜ Room 0 (answerLine count number place size ++ refusalLine number place) (now out) ⌝ }
-    ensures { λ r. ⌜ Wrote 0 (answerLine count number place size ++ refusalLine number place) (now (out .entry)) (now (out .exit)) r ⌝ }
+    ensures { λ r. ⌜ r ≡ length (answerLine count number place size ++ refusalLine number place) ⌝ }
+    ensures { λ _. ⌜ now (out .exit) ≡ putAt 0 (answerLine count number place size ++ refusalLine number place) (now (out .entry)) ⌝ }
 {
     let next = put_answer_line(out, 0, count, number, place, size);
     put_refusal_line(out, next, number, place)

@@ -7,8 +7,8 @@ use borrow.Author.Needs.{needs}
 use lib.ListN.{length, length-append}
 use Rattle.octets.specs.Parts.{putAt}
 use Rattle.octets.proofs.Lists.{put-put, put-nil}
-use Rattle.text.specs.Writing.{Room, Wrote}
-use Rattle.text.proofs.Writing.{wrote-length}
+use Rattle.text.specs.Writing.{Room}
+use Rattle.text.proofs.Writing.{Wrote, wrote-length}
 
 -- of the text `whole`, to be put into l₀ at `at`, all but `rest` is put: the buffer is l and the place reached is p
 pub record Coming (at : ℕ) (whole l₀ : List ℕ) (p : ℕ) (rest l : List ℕ) : Type 0 where
@@ -29,18 +29,18 @@ module _ {at : ℕ} {whole l₀ : List ℕ} {p : ℕ} {rest l : List ℕ} (k : C
   coming-put xs ys e {l′} {q} w =
       let f = ap length e ∙ length-append xs ys in
       let r = coming-room xs ys e in
-      let n = w .next in
+      let n = w .0 in
       record {
-        is = rw (n, w .is) (put-put p xs ys l (r .fits)) ∙ sym (ap (λ (z : List ℕ). putAt p z l) e) ∙ k .is;
+        is = rw (n, w .1) (put-put p xs ys l (r .fits)) ∙ sym (ap (λ (z : List ℕ). putAt p z l) e) ∙ k .is;
         sum = omega (arith, f, n);
-        same = wrote-length w (r .fits) ∙ k .same;
+        same = wrote-length p xs l w (r .fits) ∙ k .same;
         room = k .room;
       }
 
   pub coming-done : rest ≡ [] → Wrote at whole l₀ l p
   coming-done e =
       let f : length rest ≡ 0 = ap length e in
-      record { next = omega (arith, f); is = sym (put-nil p l) ∙ sym (ap (λ (z : List ℕ). putAt p z l) e) ∙ k .is }
+      (omega (arith, f), sym (put-nil p l) ∙ sym (ap (λ (z : List ℕ). putAt p z l) e) ∙ k .is)
 
 -- what `search` needs for a loop, beside its own laws: that nothing is left at its end, and `coming-room` and `coming-put` at its next piece, which `search` does not find by itself
 pub ruleset coming = (coming-start, coming-done, needs)

@@ -9,9 +9,9 @@ use borrow.Author.Needs.{needs}
 use borrow.Author.Tests.{lt-ltb, le-ltb}
 use lib.Dec.{ltb}
 use lib.ListN.{length, length-append}
-use Rattle.text.specs.Writing.{Room, Wrote}
+use Rattle.text.specs.Writing.{Room}
 use Rattle.text.specs.Decimal.{decimalOf, decimal, spelt}
-use Rattle.text.proofs.Writing.{wrote-none, wrote-then, wrote-length}
+use Rattle.text.proofs.Writing.{Wrote, wrote-none, wrote-then, wrote-length}
 
 module _ (k n : ℕ) (h : k ≡ 0 → ⊥) where
   some : k ≡ suc (k - 1)
@@ -31,18 +31,18 @@ module _ (k n : ℕ) (h : k ≡ 0 → ⊥) where
   more-length : 10 ≤ n → length (decimalOf k n) ≡ length (decimalOf (k - 1) (n / 10)) + 1
   more-length f = rw (more-digits f, length-append)
 
-  pub wrote-one : {at : ℕ} {l l′ : List ℕ} {p x : ℕ} → n < 10 → Wrote at (x ∷ []) l l′ p → x ≡ 48 + n → Wrote at (decimalOf k n) l l′ p
-  wrote-one f w e = rw (one-digit f, ← e) w
+  pub wrote-one : (at x : ℕ) (l : List ℕ) {l′ : List ℕ} {p : ℕ} → n < 10 → Wrote at (x ∷ []) l l′ p → x ≡ 48 + n → Wrote at (decimalOf k n) l l′ p
+  wrote-one at x l f w e = rw (one-digit f, ← e) w
 
   pub wrote-more :
-      {at : ℕ} {l l′ l″ : List ℕ} {p q x : ℕ} →
+      (at x : ℕ) (l : List ℕ) {l′ l″ : List ℕ} {p q : ℕ} →
       10 ≤ n →
       Wrote at (decimalOf (k - 1) (n / 10)) l l′ p →
       Wrote p (x ∷ []) l′ l″ q →
       x ≡ 48 + n % 10 →
       Room at (decimalOf k n) l →
       Wrote at (decimalOf k n) l l″ q
-  wrote-more f a b e r = let m = more-length f in rw (more-digits f, ← e) (wrote-then a b (omega (arith, m)))
+  wrote-more at x l f a b e r = let m = more-length f in rw (more-digits f, ← e) (wrote-then at (decimalOf (k - 1) (n / 10)) (x ∷ []) l a b (omega (arith, m)))
 
 pub wrote-zero : (k n at : ℕ) (l : List ℕ) → k ≡ 0 → Wrote at (decimalOf k n) l l at
 unfolding decimalOf
@@ -55,13 +55,14 @@ pub room-more : {k n at : ℕ} {l : List ℕ} → (k ≡ 0 → ⊥) → 10 ≤ n
 room-more {k} {n} h f r = let e = more-length k n h f in record { fits = omega (arith, e) }
 
 pub room-last : {k n at x : ℕ} {l l′ : List ℕ} {p : ℕ} → Wrote at (decimalOf (k - 1) (n / 10)) l l′ p → (k ≡ 0 → ⊥) → 10 ≤ n → Room at (decimalOf k n) l → Room p (x ∷ []) l′
-room-last {k} {n} w h f r =
+room-last {k} {n} {at} {x} {l} w h f r =
     let e = more-length k n h f in
-    let b = wrote-length w (omega (arith, e)) in
+    let b = wrote-length at (decimalOf (k - 1) (n / 10)) l w (omega (arith, e)) in
+    let m = w .0 in
     record { fits = omega (arith, e, b) }
 
--- what `search` needs for every need of `put_digits`
-pub ruleset digits = (wrote-zero, wrote-one, wrote-more, room-one, room-more, room-last, needs)
+-- what `search` needs for what `put_digits` asks of the functions that it calls
+pub ruleset digits = (room-one, room-more, room-last, needs)
 
 digits-short : (k n : ℕ) → length (decimalOf k n) ≤ k
 unfolding decimalOf

@@ -2,13 +2,16 @@
 ghost use mathlib.Core.Path.{_≡_};
 ghost use mathlib.Core.List.{[], _∷_};
 ghost use Prim.Native.Nat.{_+_, _<_};
-ghost use Rattle.text.specs.Writing.{Room, Wrote, orDash};
+ghost use lib.ListN.{length};
+ghost use Rattle.octets.specs.Parts.{putAt};
+ghost use Rattle.text.specs.Writing.{Room, orDash};
 ghost use Rattle.text.specs.Decimal.{decimal, decimalOf};
 
 // Puts the byte x at `at`.
 pub fn put_byte(out: &mut [u8], at: usize, x: u8) -> usize
     requires { ⌜ Room at (x ∷ []) (now out) ⌝ }
-    ensures { λ r. ⌜ Wrote at (x ∷ []) (now (out .entry)) (now (out .exit)) r ⌝ }
+    ensures { λ r. ⌜ r ≡ at + 1 ⌝ }
+    ensures { λ _. ⌜ now (out .exit) ≡ putAt at (x ∷ []) (now (out .entry)) ⌝ }
 {
     out[at] = x;
     at + 1
@@ -24,7 +27,8 @@ fn digit_byte(digit: usize) -> u8
 // Puts n's decimal digits, the last `most` of them.
 fn put_digits(out: &mut [u8], at: usize, most: usize, n: usize) -> usize
     requires { ⌜ Room at (decimalOf most n) (now out) ⌝ }
-    ensures { λ r. ⌜ Wrote at (decimalOf most n) (now (out .entry)) (now (out .exit)) r ⌝ }
+    ensures { λ r. ⌜ r ≡ at + length (decimalOf most n) ⌝ }
+    ensures { λ _. ⌜ now (out .exit) ≡ putAt at (decimalOf most n) (now (out .entry)) ⌝ }
 {
     if most == 0 {
         return at;
@@ -39,7 +43,8 @@ fn put_digits(out: &mut [u8], at: usize, most: usize, n: usize) -> usize
 // Puts n in decimal.
 pub fn put_number(out: &mut [u8], at: usize, n: usize) -> usize
     requires { ⌜ Room at (decimal n) (now out) ⌝ }
-    ensures { λ r. ⌜ Wrote at (decimal n) (now (out .entry)) (now (out .exit)) r ⌝ }
+    ensures { λ r. ⌜ r ≡ at + length (decimal n) ⌝ }
+    ensures { λ _. ⌜ now (out .exit) ≡ putAt at (decimal n) (now (out .entry)) ⌝ }
 {
     put_digits(out, at, 20, n)
 }
@@ -47,7 +52,8 @@ pub fn put_number(out: &mut [u8], at: usize, n: usize) -> usize
 // Puts all bytes of `source`.
 pub fn put_bytes(out: &mut [u8], at: usize, source: &[u8]) -> usize
     requires { ⌜ Room at (now source) (now out) ⌝ }
-    ensures { λ r. ⌜ Wrote at (now (source .entry)) (now (out .entry)) (now (out .exit)) r ⌝ }
+    ensures { λ r. ⌜ r ≡ at + length (now (source .entry)) ⌝ }
+    ensures { λ _. ⌜ now (out .exit) ≡ putAt at (now (source .entry)) (now (out .entry)) ⌝ }
 {
     let n = source.len();
     buffers::inner::copy(out, at, source, 0, n);
@@ -57,7 +63,8 @@ pub fn put_bytes(out: &mut [u8], at: usize, source: &[u8]) -> usize
 // Puts all bytes of `source`, or "-" where it has none.
 pub fn put_or_dash(out: &mut [u8], at: usize, source: &[u8]) -> usize
     requires { ⌜ Room at (orDash (now source)) (now out) ⌝ }
-    ensures { λ r. ⌜ Wrote at (orDash (now (source .entry))) (now (out .entry)) (now (out .exit)) r ⌝ }
+    ensures { λ r. ⌜ r ≡ at + length (orDash (now (source .entry))) ⌝ }
+    ensures { λ _. ⌜ now (out .exit) ≡ putAt at (orDash (now (source .entry))) (now (out .entry)) ⌝ }
 {
     if source.len() == 0 {
         return put_byte(out, at, b'-');

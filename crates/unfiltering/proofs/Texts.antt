@@ -11,8 +11,8 @@ use Rattle.answers.specs.declared.Answer.the-variants.{Accepted, Refused}
 use Rattle.filter_format.specs.declared.Filtered.{Filtered}
 use Rattle.filter_format.specs.Undo.{Result, filtered, roomOf, firstAfter, secondAfter, undo}
 use Rattle.filters.proofs.Buffers.{held-filled}
-use Rattle.text.specs.Writing.{Room, Wrote}
-use Rattle.text.proofs.Writing.{room}
+use Rattle.text.specs.Writing.{Room}
+use Rattle.text.proofs.Writing.{Wrote, room}
 use Rattle.lines.specs.Lines.{refusalLine, tooLong}
 use Rattle.lines.proofs.Lengths.{refusal-line-short}
 use Rattle.unfiltering.specs.Unfiltering.{answered, textOf, unfilterText, printedBy, Holds}
@@ -23,20 +23,20 @@ line-room n p l h = let s = refusal-line-short n p in room (omega arith)
 -- a line is put, and what stands behind it cleared
 pub line-held : (xs l l₁ l₂ : List ℕ) (r : ℕ) → length xs ≤ length l → Wrote 0 xs l l₁ r → l₂ ≡ filled (length l₁) (take r l₁) → (r ≡ length xs) × (l₂ ≡ filled (length l) xs)
 line-held xs l l₁ l₂ r h w e =
-    let n : r ≡ length xs = let i = w .next in omega arith in
-    (n, held-filled {n = r} (record { fits = h; is = w .is; count = n }) e)
+    let n : r ≡ length xs = let i = w .0 in omega arith in
+    (n, held-filled {n = r} (record { fits = h; is = w .1; count = n }) e)
 
--- x is what a call comes to, f its answer, and first₁ and second′ are what it leaves
-module _ (x : Result) (first second : List ℕ) {f : Filtered} {first₁ second′ : List ℕ} (is : f ≡ filtered x) (zeroed : second′ ≡ secondAfter second) where
-  pub data-held : first₁ ≡ firstAfter x first → f .answer ≡ Accepted → Holds (textOf x) first first₁ second second′ (f .made)
+-- x is what a call comes to, f its answer, and second′ and below first₁ are what it leaves
+module _ (x : Result) (first second : List ℕ) {f : Filtered} {second′ : List ℕ} (is : f ≡ filtered x) (zeroed : second′ ≡ secondAfter second) where
+  pub data-held : {first₁ : List ℕ} → first₁ ≡ firstAfter x first → f .answer ≡ Accepted → Holds (textOf x) first first₁ second second′ (f .made)
   unfolding answered
   data-held held e = let a : x .answer ≡ Accepted = sym (ap (λ (g : Filtered). g .answer) is) ∙ e in rw a (ap (λ (g : Filtered). g .made) is, (held, zeroed))
 
-  pub refusal-held : (n p : ℕ) → f .answer ≡ Refused n p → 64 ≤ length first → length first₁ ≡ length first
+  pub refusal-held : (first₁ : List ℕ) (n p : ℕ) → f .answer ≡ Refused n p → 64 ≤ length first → length first₁ ≡ length first
       → {first₂ first′ : List ℕ} {r : ℕ} → Wrote 0 (refusalLine n p) first₁ first₂ r → first′ ≡ filled (length first₂) (take r first₂)
       → Holds (textOf x) first first′ second second′ r
   unfolding answered
-  refusal-held n p e h same {first₂} {first′} {r} w cleared =
+  refusal-held first₁ n p e h same {first₂} {first′} {r} w cleared =
       let a : x .answer ≡ Refused n p = sym (ap (λ (g : Filtered). g .answer) is) ∙ e in
       let s = refusal-line-short n p in
       let o = line-held (refusalLine n p) first₁ first₂ first′ r (omega arith) w cleared in

@@ -3,7 +3,7 @@ use mathlib.Core.Bool.{true}
 use borrow.Author.Needs.{needs}
 use Rattle.filter_format.specs.Block.{undone}
 use Rattle.filters.proofs.Buffers.{Holds, held-inside}
-use Rattle.filters.proofs.Choice.{Told, Passed, told-accepted, chosen-refused, opens-here, chosen-raw, chosen-layer, handed, each}
+use Rattle.filters.proofs.Choice.{Told, Passed, told-accepted, chosen-refused, opens-here, chosen-raw, chosen-layer, handed}
 use Rattle.filters.proofs.undo.Statement.{statement}
 use Rattle.filters.proofs.undo.Tie as tie
 
@@ -34,7 +34,7 @@ undo-spec =
     (λ c. search needs)
     (λ c.
     let k = c .before .before .before .before in
-    each (chosen-refused (told (k .before .before .before .before .before .before)) true (k .before .before .before .before .answer .given .1) (k .refuse .ensures)))
+    chosen-refused (told (k .before .before .before .before .before .before)) true (k .before .before .before .before .answer .given .1) (k .refuse .ensures))
     (λ c. search needs)
     (λ c κs. opens-here (passed (c .before)))
     (λ c κs. search needs)
@@ -47,7 +47,7 @@ undo-spec =
     let i = z .before .before .before .before .before .before in
     let u = i .before .before .before .before in
     let raw = sym (i .before .is-raw .ensures) ∙ i .if1 .taken in
-    each (chosen-raw (passed (u .before .before)) raw (held u) (z .before .before .before .before .clear-behind .ensures) (z .clear-behind2 .ensures)))
+    chosen-raw (passed (u .before .before)) raw (held u) (z .before .before .before .before .clear-behind .ensures) (z .clear-behind2 .ensures))
     (λ c κs. held-inside (held (c .before .before .before .before .before .before)))
     (λ c. search needs)
     (λ c. search needs)
@@ -57,4 +57,4 @@ undo-spec =
     let u = i .before .before .before .before in
     let second = u .before .before .before .before .before .before .before .before .before .before .args .second .now in
     let not-raw = sym (i .before .is-raw .ensures) ∙ i .if1 .left in
-    each (chosen-layer (passed (u .before .before)) not-raw true (handed (held u) 7 true second (k .choose .ensures)))))
+    chosen-layer (passed (u .before .before)) not-raw true (handed (held u) 7 true second (k .choose .ensures))))

@@ -1,7 +1,7 @@
 use borrow.Author.Needs.{needs}
 use Rattle.filter_format.specs.Block.{undone}
 use Rattle.filters.proofs.Buffers.{Holds, held-inside}
-use Rattle.filters.proofs.Choice.{ToldAlone, alone-refused, alone-opens, alone-placed, each}
+use Rattle.filters.proofs.Choice.{ToldAlone, alone-refused, alone-opens, alone-placed}
 use Rattle.filters.proofs.undo_layer.Statement.{statement}
 use Rattle.filters.proofs.undo_layer.Tie as tie
 
@@ -31,7 +31,7 @@ undo-layer-spec =
     (λ c. search needs)
     (λ c.
     let k = c .before .before .before .before in
-    each (alone-refused (told (k .before .before .before .before .before .before)) (k .before .before .before .before .answer .given .1) (k .refuse .ensures)))
+    alone-refused (told (k .before .before .before .before .before .before)) (k .before .before .before .before .answer .given .1) (k .refuse .ensures))
     (λ c. search needs)
     (λ c κs. alone-opens (told (c .before .before .before)) (c .before .enum-told .given .1))
     (λ c κs. held-inside (held (c .before .before .before)))
@@ -42,4 +42,4 @@ undo-layer-spec =
     let z = c .before .before in
     let u = z .before .before .before .before .before .before .before .before in
     let ok = u .before .before .enum-told .given .1 in
-    each (alone-placed (told (u .before .before .before .before)) ok (held u) (z .before .before .before .before .clear-behind .ensures) (z .clear-behind2 .ensures))))
+    alone-placed (told (u .before .before .before .before)) ok (held u) (z .before .before .before .before .clear-behind .ensures) (z .clear-behind2 .ensures)))

@@ -1,4 +1,5 @@
 use borrow.Author.Needs.{needs}
+use Rattle.text.proofs.Writing.{at-front}
 use Rattle.report.proofs.Reports.{reported-accepted, reported-refused, room-for, none-put, all-put}
 use Rattle.report.proofs.report.Statement.{statement}
 use Rattle.report.proofs.report.Tie as tie
@@ -24,4 +25,4 @@ report-spec =
     let o = c .before .before .before .before .before .before .before .before .before .args .outcome in
     let h = c .before .before .before .before .before .before .before .if1 .left in
     let e = reported-refused o _ _ (c .before .before .before .before .before .answer .given .1) in
-    all-put _ _ h e (room-for o _ _ h e) (c .before .before .put-refused .ensures)))
+    all-put _ _ h e (room-for o _ _ h e) (at-front _ _ (c .before .before .put-refused .ensures))))

@@ -30,4 +30,4 @@ put-undone-spec =
     let u = c .before .before .before .before .before .before .before .before .before .before .before .before .before .before .before .undo in
     let x : Result = undo (roomOf (a .first .now) (a .second .now)) (a .block .now) in
     let g = c .before .before .before .before .before .before .before .before .before .answer .given in
-    refusal-held x (a .first .now) (a .second .now) (u .ensures .0) (u .ensures .1 .1) (g .0 .0) (g .0 .1 .0) (g .1) (c .before .before .before .before .before .before .before .before .before .before .before .before .before .before .before .before .before .before .before .before .before .pre) (omega arith) (c .before .before .before .before .before .before .put-refusal-line .ensures) (c .before .before .clear-behind .ensures)))
+    refusal-held x (a .first .now) (a .second .now) (u .ensures .0) (u .ensures .1 .1) _ (g .0 .0) (g .0 .1 .0) (g .1) (c .before .before .before .before .before .before .before .before .before .before .before .before .before .before .before .before .before .before .before .before .before .pre) (omega arith) (c .before .before .before .before .before .before .put-refusal-line .ensures) (c .before .before .clear-behind .ensures)))

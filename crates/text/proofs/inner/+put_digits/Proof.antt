@@ -1,7 +1,7 @@
 use Prim.Native.Nat.{ℕ, _<_}
 use borrow.Fn.Kinds.{In}
 use borrow.Fn.PlainCycle.{Measures, is, falls, and}
-use Rattle.text.proofs.Decimal.{digits}
+use Rattle.text.proofs.Decimal.{digits, wrote-zero, wrote-one, wrote-more}
 use Rattle.text.proofs.inner.put_digits.Reads as put-digits
 use Rattle.text.proofs.inner.put_digits.Kinds as put-digits-kinds
 use Rattle.text.proofs.inner.+put_digits.Lts-put_digits as put-digits-lts
@@ -32,14 +32,16 @@ pub +put-digits-spec : {M : Type 1} → statement M
 )
     (put-digits-at t)
     put-digits.Post
-    (λ c. search digits)
+    (λ c. wrote-zero _ _ _ _ (c .if1 .taken))
     (λ c κs. search digits)
     (λ c κs. search digits)
     (λ c. search digits)
-    (λ c. search digits)
+    (λ c. wrote-one _ _ (search digits) _ _ _ (search digits) (c .before .before .put-byte .ensures) (search digits))
     (λ c. search digits)
     (λ c κs. search digits)
     (λ c κs. search digits)
     (λ c κs. search digits)
     (λ c. search digits)
-    (λ c. search digits)
+    (λ c.
+    let k = c .before .before in
+    wrote-more _ _ (search digits) _ _ _ (search digits) (k .before .before .before .before .before .put-digits .ensures) (k .put-byte2 .ensures) (search digits) (search digits))

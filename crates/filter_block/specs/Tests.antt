@@ -1,4 +1,4 @@
--- What the code asks of a block. Assumes nothing: these are definitions.
+-- Words of this crate's contracts: a part of a block's tests, and what undoing a filter asks. Assumes nothing: these are definitions.
 use Prim.Native.Nat.{ℕ, _≤_}
 use mathlib.Core.Path.{_≡_}
 use mathlib.Core.Bool.{false}
@@ -14,6 +14,6 @@ use Rattle.filter_format.specs.Block.{Known, headerLength, dataAt, badData, und
 unfoldable pub dataTest : Filter → ℕ → List ℕ → Answer
 dataTest f room b = when (badData f (dataAt f b)) 43 0 then when (ltb room (length (undone f b))) 26 0
 
--- a block that passed its tests, as its filter's undoing requires it
+-- what undoing the filter f of a block b asks, and the tests give: the block is right, and its result has room
 abbrev pub Opens : Filter → List ℕ → ℕ → Type 0
 Opens f b room = (Known f) × (headerLength f ≤ length b) × (badData f (dataAt f b) ≡ false) × (length (undone f b) ≤ room)

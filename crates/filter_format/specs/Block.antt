@@ -1,4 +1,4 @@
--- A block: its format, its header, its data, and what undoing its filter gives. Assumes nothing: these are definitions.
+-- A block: its format, its header, its data, what undoing its filter gives, and its tests. Assumes nothing: these are definitions.
 use Prim.Native.Nat.{ℕ, _≤_}
 use mathlib.Core.Bool.{Bool, true, false, cond, not, _&&_, _||_}
 use mathlib.Core.List.{List, []}
@@ -15,7 +15,7 @@ use Rattle.filter_format.specs.Delta.{undeltaBytes}
 use Rattle.filter_format.specs.Narrow.{widen, lacking}
 use Rattle.filter_format.specs.Follow.{unfollowed}
 
--- the formats and the width of their units
+-- 0; 64, 65, 66 with units of 1, 2, 4 bytes; 70, 71 with "signed units of 2, 4 bytes"; 72; any other
 unfoldable pub filterOf : ℕ → Filter
 filterOf format =
     cond (eqb format 0) Raw
@@ -26,18 +26,11 @@ filterOf format =
     (cond (eqb format 71) (Narrow 4)
     (cond (eqb format 72) Follow Other))))))
 
--- what holds of the filter that a format stands for: its units have a width
-abbrev pub Known : Filter → Type 0
-Known Raw = Unit {0}
-Known (Delta w) = IsWidth w
-Known (Narrow w) = (IsWidth w) × (2 ≤ w)
-Known Follow = Unit {0}
-Known Other = Unit {0}
-
 -- "Byte 0 is the format"
 abbrev pub filterAt : List ℕ → Filter
 filterAt b = filterOf (getD b 0 0)
 
+-- "0: the rest is the data"
 abbrev pub isRaw : Filter → Bool
 isRaw Raw = true
 isRaw (Delta w) = false
@@ -53,7 +46,7 @@ isFilter (Narrow w) = true
 isFilter Follow = true
 isFilter Other = false
 
--- where the data begin: behind the format byte, for 64 and 65 behind the level byte, for 66 behind two zeros more, for 72 behind "256 follow bytes"
+-- where the data begin: behind the format byte; for 64 to 66 behind the level byte, "66: then two zeros"; for 72 behind "256 follow bytes"
 unfoldable pub headerLength : Filter → ℕ
 headerLength Raw = 1
 headerLength (Delta w) = cond (eqb w 4) 4 2
@@ -61,6 +54,7 @@ headerLength (Narrow w) = 1
 headerLength Follow = 257
 headerLength Other = 1
 
+-- the level byte, the follow bytes, the data
 abbrev pub levelAt : List ℕ → ℕ
 levelAt b = getD b 1 0
 
@@ -69,6 +63,18 @@ followAt b = part 1 256 b
 
 abbrev pub dataAt : Filter → List ℕ → List ℕ
 dataAt f b = drop (headerLength f) b
+
+-- the data s of a block, with their filter undone
+unfoldable pub decoded : Filter → ℕ → List ℕ → List ℕ → List ℕ
+decoded Raw level follow s = s
+decoded (Delta w) level follow s = undeltaBytes w level s
+decoded (Narrow w) level follow s = widen w 0 s
+decoded Follow level follow s = unfollowed follow s
+decoded Other level follow s = []
+
+-- "Undoing a filter gives another block"; of format 0 "the rest is the data"
+unfoldable pub undone : Filter → List ℕ → List ℕ
+undone f b = decoded f (levelAt b) (followAt b) (dataAt f b)
 
 -- "level byte, 1 to 3 here"
 abbrev pub badLevel : ℕ → Bool
@@ -90,18 +96,6 @@ badData (Narrow w) s = ltb 0 (lacking w 0 s)
 badData Follow s = false
 badData Other s = false
 
--- the data s with their filter undone
-unfoldable pub decoded : Filter → ℕ → List ℕ → List ℕ → List ℕ
-decoded Raw level follow s = s
-decoded (Delta w) level follow s = undeltaBytes w level s
-decoded (Narrow w) level follow s = widen w 0 s
-decoded Follow level follow s = unfollowed follow s
-decoded Other level follow s = []
-
--- what a block of the filter f gives: "0: the rest is the data"; "Undoing a filter gives another block"
-unfoldable pub undone : Filter → List ℕ → List ℕ
-undone f b = decoded f (levelAt b) (followAt b) (dataAt f b)
-
 -- "40 header cut short; 42 level or zeros wrong; 43 data not whole units, or 128 with too few bytes after it; 26 a result above the room. Place 0"
 unfoldable pub contentsTest : Filter → ℕ → List ℕ → Answer
 contentsTest f room b =
@@ -109,3 +103,11 @@ contentsTest f room b =
     then when (badHeader f b) 42 0
     then when (badData f (dataAt f b)) 43 0
     then when (ltb room (length (undone f b))) 26 0
+
+-- what the code asks of a filter, and every format gives: its units have a width
+abbrev pub Known : Filter → Type 0
+Known Raw = Unit {0}
+Known (Delta w) = IsWidth w
+Known (Narrow w) = (IsWidth w) × (2 ≤ w)
+Known Follow = Unit {0}
+Known Other = Unit {0}

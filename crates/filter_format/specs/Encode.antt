@@ -25,7 +25,7 @@ badGiven (Narrow w) level follow = false
 badGiven Follow level follow = not (eqb (length follow) 256)
 badGiven Other level follow = false
 
--- "43": the data to encode are not whole units
+-- "43": the data are not whole units
 unfoldable pub badUnits : Filter → List ℕ → Bool
 badUnits Raw s = false
 badUnits (Delta w) s = notWhole w s
@@ -33,7 +33,7 @@ badUnits (Narrow w) s = notWhole w s
 badUnits Follow s = false
 badUnits Other s = false
 
--- the bytes between the format byte and the data
+-- the header behind the format byte
 unfoldable pub headerRest : Filter → ℕ → List ℕ → List ℕ
 headerRest Raw level follow = []
 headerRest (Delta w) level follow = level ∷ replicate (headerLength (Delta w) - 2) 0
@@ -41,7 +41,7 @@ headerRest (Narrow w) level follow = []
 headerRest Follow level follow = follow
 headerRest Other level follow = []
 
--- the data behind the filter
+-- the data, filtered
 unfoldable pub encodedData : Filter → ℕ → List ℕ → List ℕ → List ℕ
 encodedData Raw level follow s = s
 encodedData (Delta w) level follow s = deltaBytes w level s
@@ -49,7 +49,7 @@ encodedData (Narrow w) level follow s = narrow w (unitsOf w s)
 encodedData Follow level follow s = followed follow s
 encodedData Other level follow s = []
 
--- the block
+-- one layer
 unfoldable pub encoded : ℕ → ℕ → List ℕ → List ℕ → List ℕ
 encoded format level follow s = format ∷ (headerRest (filterOf format) level follow ++ encodedData (filterOf format) level follow s)
 
@@ -61,14 +61,15 @@ encodeTest room format level follow s =
     then when (badUnits (filterOf format) s) 43 0
     then when (ltb room (length (encoded format level follow s))) 26 0
 
+-- the layer, or its refusal
 unfoldable pub encode : ℕ → ℕ → ℕ → List ℕ → List ℕ → Result
 encode room format level follow s = tested (encodeTest room format level follow s) (encoded format level follow s)
 
--- "changing nothing; success writes the block only"
+-- the lent buffer afterwards: "changing nothing; success writes the block only"
 abbrev pub outAfter : Result → List ℕ → List ℕ
 outAfter result out = putAt 0 (result .bytes) out
 
--- "Encode after undo returns the block for 64, 65, 66, 72 (same level and follow bytes); not for 70, 71"
+-- "Encode after undo returns the block for 64, 65, 66, 72 (same level and follow bytes); not for 70, 71": whether it does for the block b of that filter
 abbrev pub SameFor : Filter → List ℕ → ℕ → List ℕ → Type 0
 SameFor Raw b level follow = ⊥
 SameFor (Delta w) b level follow = level ≡ levelAt b

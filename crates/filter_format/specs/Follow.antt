@@ -4,15 +4,16 @@ use mathlib.Core.List.{List, [], _∷_}
 use lib.ListN.{getD}
 use Rattle.filter_format.specs.Delta.{scan, latest}
 
--- follow[p] less x
+-- "follow[previous byte] less the byte, modulo 256": p is the previous byte
 abbrev pub predicted : List ℕ → ℕ → ℕ → ℕ
 predicted follow p x = (getD follow p 0 + (256 - x)) % 256
 
+-- "first data byte as is, then .."
 unfoldable pub followed : List ℕ → List ℕ → List ℕ
 followed follow [] = []
 followed follow (x ∷ xs) = x ∷ scan (predicted follow) latest x xs
 
--- the way back: the byte remembered is the data's, not the stored one
+-- the way back: the previous byte is the data's, not the stored one
 unfoldable pub unfollowed : List ℕ → List ℕ → List ℕ
 unfollowed follow [] = []
 unfollowed follow (x ∷ xs) = x ∷ scan (predicted follow) (predicted follow) x xs

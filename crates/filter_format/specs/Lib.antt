@@ -1,4 +1,4 @@
--- In document 01's order: units; the filters; a block; undoing; encoding; SCF samples.
+-- Document 01, "Filtered blocks", whose words stand in quotation marks; from the parts to the whole: units; the filters of 64 to 66, of 70 and 71, and of 72; a block; undoing; encoding; SCF samples.
 pub mod Units
 pub mod Delta
 pub mod Narrow

@@ -6,14 +6,15 @@ use lib.Dec.{eqb, leb, ltb}
 use Rattle.octets.specs.Numbers.{bytesOf}
 use Rattle.filter_format.specs.Units.{range}
 
--- -127 as a unit
+-- -127 as a unit, in two's complement
 abbrev pub least : ℕ → ℕ
 least w = range w - 127
 
--- a unit in two's complement: 0 to 127 and the least to the range less 1 are -127 to 127
+-- "-127 to 127 as one byte, else byte 128 and the unit whole": 0 to 127, and the units from `least` on, are -127 to 127
 unfoldable pub narrowUnit : ℕ → ℕ → List ℕ
 narrowUnit w u = cond (leb u 127) (u ∷ []) (cond (leb (least w) u) (u % 256 ∷ []) (128 ∷ bytesOf w u))
 
+-- the units one after another
 unfoldable pub narrow : ℕ → List ℕ → List ℕ
 narrow w [] = []
 narrow w (u ∷ us) = narrowUnit w u ++ narrow w us
@@ -22,13 +23,13 @@ narrow w (u ∷ us) = narrowUnit w u ++ narrow w us
 unfoldable pub extended : ℕ → ℕ → ℕ
 extended w c = cond (ltb c 128) c (range w - 256 + c)
 
--- the units' bytes again, where `due` bytes of a whole unit are still to come
+-- the way back: the bytes of the units, where `due` bytes of a whole unit are still to come
 unfoldable pub widen : ℕ → ℕ → List ℕ → List ℕ
 widen w due [] = []
 widen w zero (c ∷ s) = cond (eqb c 128) [] (bytesOf w (extended w c)) ++ widen w (cond (eqb c 128) w 0) s
 widen w (suc due) (c ∷ s) = c ∷ widen w due s
 
--- the same walk: how many bytes of a whole unit are lacking at the end
+-- "128 with too few bytes after it": how many bytes of a whole unit are lacking at the end of the same walk
 unfoldable pub lacking : ℕ → ℕ → List ℕ → ℕ
 lacking w due [] = due
 lacking w zero (c ∷ s) = lacking w (cond (eqb c 128) w 0) s

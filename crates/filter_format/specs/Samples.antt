@@ -17,6 +17,7 @@ samplesTest room precision s =
     then when (notWhole precision s) 43 0
     then when (ltb room (length s)) 26 0
 
+-- encoded, and undone
 unfoldable pub encodeSamples : ℕ → ℕ → List ℕ → Result
 encodeSamples room precision s = tested (samplesTest room precision s) (deltaBytes precision 2 s)
 

@@ -16,6 +16,7 @@ pub record Result : Type 0 where
   pub answer : Answer
   pub bytes : List ℕ
 
+-- carried out, and refused
 abbrev pub making : List ℕ → Result
 making bytes = record { answer = Accepted; bytes = bytes }
 
@@ -26,22 +27,11 @@ refusing answer = record { answer = answer; bytes = [] }
 abbrev pub tested : Answer → List ℕ → Result
 tested answer bytes = acceptedOr answer (making bytes) (refusing answer)
 
--- "a filter the number of bytes it made (refused: 0)"
-abbrev pub filtered : Result → Filtered
-filtered result = record { answer = result .answer; made = length (result .bytes) }
-
 -- "Undoing uses two lent buffers, room being the shorter length"
 abbrev pub roomOf : List ℕ → List ℕ → ℕ
 roomOf first second = min (length first) (length second)
 
--- "On success the first buffer holds the data, then zeros; the other is zero. A refusal zeroes both"
-abbrev pub firstAfter : Result → List ℕ → List ℕ
-firstAfter result first = filled (length first) (result .bytes)
-
-abbrev pub secondAfter : List ℕ → List ℕ
-secondAfter second = filled (length second) []
-
--- "Order per layer: 40 empty block; 41 other format; 44 a ninth filter; ..", where `left` filters may still be opened
+-- "Order per layer: 40 empty block; 41 other format; 44 a ninth filter;" then the tests of the contents. `left` filters may still be opened
 unfoldable pub blockTest : ℕ → ℕ → List ℕ → Answer
 blockTest left room b =
     when (eqb (length b) 0) 40 0
@@ -61,11 +51,22 @@ undoFrom (suc left) room b =
 abbrev pub mostFilters : ℕ
 mostFilters = 8
 
--- a whole block
+-- a whole block, undone until format 0
 abbrev pub undo : ℕ → List ℕ → Result
 undo room b = undoFrom mostFilters room b
 
--- "One layer of these six formats (any other is 41) can be undone alone, with the same refusals"
+-- what a call answers: "a filter the number of bytes it made (refused: 0)"
+abbrev pub filtered : Result → Filtered
+filtered result = record { answer = result .answer; made = length (result .bytes) }
+
+-- what the two buffers hold afterwards: "On success the first buffer holds the data, then zeros; the other is zero. A refusal zeroes both"
+abbrev pub firstAfter : Result → List ℕ → List ℕ
+firstAfter result first = filled (length first) (result .bytes)
+
+abbrev pub secondAfter : List ℕ → List ℕ
+secondAfter second = filled (length second) []
+
+-- "One layer of these six formats (any other is 41) can be undone alone, with the same refusals and buffers"
 unfoldable pub layerTest : ℕ → List ℕ → Answer
 layerTest room b =
     when (eqb (length b) 0) 40 0

@@ -1,4 +1,4 @@
--- Data as units of w bytes, big endian. Assumes nothing: these are definitions.
+-- Data in units of w bytes, big endian. Assumes nothing: these are definitions.
 use Prim.Native.Nat.{ℕ, _/_, _%_, _^_, _<_, _≤_}
 use mathlib.Core.Bool.{Bool, not}
 use mathlib.Core.List.{List}
@@ -7,11 +7,11 @@ use lib.ListN.{length}
 use lib.Dec.{eqb}
 use Rattle.octets.specs.Numbers.{unitsAt}
 
--- "units of 1, 2, 4 bytes", said so that `omega` reads it
+-- "units of 1, 2, 4 bytes": what a function that takes a width asks of it
 abbrev pub IsWidth : ℕ → Type 0
 IsWidth w = (0 < w) × (w ≤ 4) × (w ≢ 3)
 
--- "the unit's range"
+-- "the unit's range": a unit of w bytes has so many values
 abbrev pub range : ℕ → ℕ
 range w = 256 ^ w
 

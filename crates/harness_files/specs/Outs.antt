@@ -14,6 +14,7 @@ use Rattle.harness_files.specs.declared.Stepped.{Stepped}
 abbrev pub stateFrom : ℕ → ℕ → ℕ → State
 stateFrom at passed index-passed = record { place = at; passed-reads = passed; passed-index = not (eqb index-passed 0) }
 
+-- 1 for yes, 0 for no
 abbrev pub flag : Bool → ℕ
 flag x = cond x 1 0
 
@@ -31,6 +32,7 @@ pub record SmallClips (v : ReadView) : Type 0 where
   pub adapter-left : v .«adapter_left» < 65536
   pub adapter-right : v .«adapter_right» < 65536
 
+-- the numbers of a step
 abbrev pub steppedWith : ℕ → ℕ → ℕ → ℕ → ℕ → ℕ → ℕ → ℕ → ℕ → Stepped
 steppedWith number place at passed index-passed read-start name-length bases clips = record {
   number = number;
@@ -46,28 +48,9 @@ steppedWith number place at passed index-passed read-start name-length bases cli
 
 -- a step's answer as numbers; those of a read are 0 where there is none
 unfoldable pub steppedOf : Step → Stepped
-steppedOf (found v next) = record {
-  number = 0;
-  place = 0;
-  at = next .place;
-  passed = next .passed-reads;
-  «index_passed» = flag (next .passed-index);
-  «read_start» = v .place;
-  «name_length» = v .name .size;
-  bases = v .bases .size;
-  clips = viewClips v;
-}
-steppedOf (stop n p s) = record {
-  number = n;
-  place = p;
-  at = s .place;
-  passed = s .passed-reads;
-  «index_passed» = flag (s .passed-index);
-  «read_start» = 0;
-  «name_length» = 0;
-  bases = 0;
-  clips = 0;
-}
+steppedOf (found v next) =
+    steppedWith 0 0 (next .place) (next .passed-reads) (flag (next .passed-index)) (v .place) (v .name .size) (v .bases .size) (viewClips v)
+steppedOf (stop n p s) = steppedWith n p (s .place) (s .passed-reads) (flag (s .passed-index)) 0 0 0 0
 
 -- bytes at the front of a buffer that has room for them; one that has not stays as it is
 unfoldable pub putFront : List ℕ → List ℕ → List ℕ

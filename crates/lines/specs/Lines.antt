@@ -1,4 +1,4 @@
--- The lines that the programs print: of a file's header, of a read, of a refusal, of a list run's answer. Assumes nothing: these are definitions.
+-- The lines that the programs print, document 01's words in quotation marks: of a file's header, of a read, of a refusal, of an input that is too long, of a list run's answer. Assumes nothing: these are definitions.
 use Prim.Native.Nat.{ℕ}
 use mathlib.Core.List.{List, [], _∷_, _++_}
 use Rattle.text.specs.Writing.{orDash}
@@ -64,7 +64,7 @@ labelledNumber label n end = label ++ numberField n end
 unfoldable pub labelledWord : List ℕ → List ℕ → ℕ → List ℕ
 labelledWord label xs end = label ++ wordField xs end
 
--- document 01: "flows 4 key T reads 1"
+-- as "flows 4 key T reads 1"
 unfoldable pub headerLine : ℕ → List ℕ → ℕ → List ℕ
 headerLine flows key reads =
     labelledNumber flowsLabel flows space ++ labelledWord keyLabel key space ++ labelledNumber readsLabel reads newline
@@ -73,20 +73,20 @@ headerLine flows key reads =
 unfoldable pub extent : ℕ → ℕ → ℕ → List ℕ
 extent bases first last = numberField bases space ++ numberField first space ++ numberField last space
 
--- document 01: "A read's line is position, name, N, first, last, insert"
+-- "A read's line is position, name, N, first, last, insert"
 unfoldable pub readLine : ℕ → List ℕ → ℕ → ℕ → ℕ → List ℕ → List ℕ
 readLine position name bases first last insert =
     numberField position space ++ wordField name space ++ extent bases first last ++ wordField insert newline
 
--- document 01: "A refusal is one line and nothing else, as `refused 9 at 48`"
+-- "A refusal is one line and nothing else, as `refused 9 at 48`"
 unfoldable pub refusalLine : ℕ → ℕ → List ℕ
 refusalLine number place = labelledNumber refusedLabel number space ++ labelledNumber atLabel place newline
 
--- document 01: "longer input than 65,536 bytes prints `too long`"
+-- "longer input than 65,536 bytes prints `too long`"
 abbrev pub tooLong : List ℕ
 tooLong = 116 ∷ 111 ∷ 111 ∷ 32 ∷ 108 ∷ 111 ∷ 110 ∷ 103 ∷ 10 ∷ []
 
--- of a list run, document 01: "The answer has their count and the number, place and length of the last record tried"
+-- of a list run: "The answer has their count and the number, place and length of the last record tried"
 unfoldable pub answerLine : ℕ → ℕ → ℕ → ℕ → List ℕ
 answerLine count number place length =
     labelledNumber countLabel count space ++ labelledNumber numberLabel number space ++ labelledNumber placeLabel place space ++ labelledNumber lengthLabel length newline

@@ -1,4 +1,4 @@
--- What the lister prints of a file. Assumes nothing: these are definitions.
+-- What the lister prints of a file, document 01's words in quotation marks. Assumes nothing: these are definitions.
 use Prim.Native.Nat.{ℕ, suc, _+_, _*_}
 use mathlib.Core.Bool.{cond}
 use mathlib.Core.List.{List, [], _∷_, _++_}
@@ -23,6 +23,7 @@ unfoldable pub linesFrom : ℕ → List Read → List ℕ
 linesFrom position [] = []
 linesFrom position (r ∷ rs) = lineOf position r ++ linesFrom (suc position) rs
 
+-- as "flows 4 key T reads 1", then the lines of the reads
 unfoldable pub fileLines : File → List ℕ
 fileLines f = headerLine (length (f .flow-characters)) (f .key) (length (f .reads)) ++ linesFrom 0 (f .reads)
 
@@ -31,6 +32,7 @@ unfoldable pub listed : Answer → List ℕ → List ℕ
 listed Accepted b = fileLines (parse b)
 listed (Refused n p) b = refusalLine n p
 
+-- of any bytes
 unfoldable pub listing : List ℕ → List ℕ
 listing b = listed (fileTest b) b
 
@@ -38,7 +40,7 @@ listing b = listed (fileTest b) b
 abbrev pub enough : ℕ → ℕ
 enough n = 7 * n + 64
 
--- the listing where a buffer of that length has room for any of so many bytes, and else nothing
+-- the same where a buffer of that length has `enough` room, and else nothing
 unfoldable pub listingIn : ℕ → List ℕ → List ℕ
 listingIn room b = cond (ltb room (enough (length b))) [] (listing b)
 
@@ -46,10 +48,10 @@ listingIn room b = cond (ltb room (enough (length b))) [] (listing b)
 unfoldable pub printed : List ℕ → List ℕ
 printed b = cond (ltb 65536 (length b)) tooLong (listing b)
 
--- the same in a buffer with room for any of it, and else nothing
+-- the same where a buffer of that length has room for any of it, and else nothing
 unfoldable pub printedIn : ℕ → List ℕ → List ℕ
 printedIn room b = cond (ltb room (enough 65536)) [] (printed b)
 
--- a read's line, from what is said of the read in numbers
+-- what the code puts for a read: its line, from its places in the file b
 unfoldable pub viewLine : List ℕ → ℕ → ReadView → List ℕ
 viewLine b position v = readLine position (bytesIn b (v .name)) (v .bases .size) (viewFirst v) (viewLast v) (insertIn b v)

@@ -9,15 +9,16 @@ use Rattle.answers.specs.Answer.{numberOf, placeOf, acceptedOr}
 use Rattle.sff_correction.specs.declared.ListOutcome.{ListOutcome}
 use Rattle.lines.specs.Lines.{refusalLine, answerLine}
 
--- "prints the answer (count, number, place, length)"
+-- "The answer has their count and the number, place and length of the last record tried"
 abbrev pub answered : ListOutcome → List ℕ
 answered o = answerLine (o .count) (numberOf (o .answer)) (placeOf (o .answer)) (o .length)
 
--- "a refusal prints in the lister's form"
+-- a refusal's line, as the lister prints it
 unfoldable pub refusal : Answer → List ℕ
 refusal Accepted = []
 refusal (Refused n p) = refusalLine n p
 
+-- the answer, then the refusal if there is one
 unfoldable pub reported : ListOutcome → List ℕ
 reported o = answered o ++ refusal (o .answer)
 

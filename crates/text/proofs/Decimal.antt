@@ -10,7 +10,7 @@ use borrow.Author.Tests.{lt-ltb, le-ltb}
 use lib.Dec.{ltb}
 use lib.ListN.{length, length-append}
 use Rattle.text.specs.Writing.{Room}
-use Rattle.text.specs.Decimal.{decimalOf, decimal, spelt}
+use Rattle.text.specs.Decimal.{decimalOf, decimal}
 use Rattle.text.proofs.Writing.{Wrote, wrote-none, wrote-then, wrote-length}
 
 module _ (k n : ℕ) (h : k ≡ 0 → ⊥) where
@@ -75,6 +75,11 @@ digits-short (suc k) n = go (ltb n 10) refl (digits-short k (n / 10))
 
 pub decimal-short : (n : ℕ) → length (decimal n) ≤ 20
 decimal-short n = digits-short 20 n
+
+-- the number that a, followed by the decimal digits xs, spells
+unfoldable pub spelt : ℕ → List ℕ → ℕ
+spelt a [] = a
+spelt a (x ∷ xs) = spelt (a * 10 + (x - 48)) xs
 
 spelt-last : (a : ℕ) (xs : List ℕ) (x : ℕ) → spelt a (xs ++ (x ∷ [])) ≡ spelt a xs * 10 + (x - 48)
 unfolding spelt

@@ -15,7 +15,11 @@ use Rattle.text.specs.Writing.{Room}
 use Rattle.text.proofs.Writing.{Wrote, room}
 use Rattle.lines.specs.Lines.{refusalLine, tooLong}
 use Rattle.lines.proofs.Lengths.{refusal-line-short}
-use Rattle.unfiltering.specs.Unfiltering.{answered, textOf, unfilterText, printedBy, Holds}
+use Rattle.unfiltering.specs.Unfiltering.{answered, textOf, unfilterText, printedBy}
+
+-- r bytes of text stand in the first buffer, then zeros; the second is zero: the three promises of a function that puts a text
+abbrev pub Holds : List ℕ → List ℕ → List ℕ → List ℕ → List ℕ → ℕ → Type 0
+Holds text first first′ second second′ r = (r ≡ length text) × ((first′ ≡ filled (length first) text) × (second′ ≡ secondAfter second))
 
 pub line-room : (n p : ℕ) (l : List ℕ) → 64 ≤ length l → Room 0 (refusalLine n p) l
 line-room n p l h = let s = refusal-line-short n p in room (omega arith)

@@ -1,14 +1,12 @@
--- What `unfilter` prints of a block. Assumes nothing: these are definitions.
+-- What `unfilter` prints of a block: its data, or else as the lister prints it. Assumes nothing: these are definitions.
 use Prim.Native.Nat.{ℕ}
-use mathlib.Core.Path.{_≡_}
 use mathlib.Core.Bool.{cond}
 use mathlib.Core.List.{List, []}
 use lib.ListN.{length}
 use lib.Dec.{ltb}
-use Rattle.octets.specs.Parts.{filled}
 use Rattle.answers.specs.declared.Answer.{Answer}
 use Rattle.answers.specs.declared.Answer.the-variants.{Accepted, Refused}
-use Rattle.filter_format.specs.Undo.{Result, roomOf, secondAfter, undo}
+use Rattle.filter_format.specs.Undo.{Result, roomOf, undo}
 use Rattle.lines.specs.Lines.{refusalLine, tooLong}
 
 -- "A refusal is one line and nothing else"
@@ -27,7 +25,3 @@ unfilterText room b = cond (ltb 65536 (length b)) tooLong (textOf (undo room b))
 -- the same by way of two buffers, where the first has room for any line, and else nothing
 unfoldable pub printedBy : List ℕ → List ℕ → List ℕ → List ℕ
 printedBy first second b = cond (ltb (length first) 64) [] (unfilterText (roomOf first second) b)
-
--- r bytes of text stand in the first buffer, then zeros; the second is zero
-abbrev pub Holds : List ℕ → List ℕ → List ℕ → List ℕ → List ℕ → ℕ → Type 0
-Holds text first first′ second second′ r = (r ≡ length text) × ((first′ ≡ filled (length first) text) × (second′ ≡ secondAfter second))

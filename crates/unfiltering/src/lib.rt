@@ -6,7 +6,7 @@ ghost use Rattle.octets.specs.Parts.{filled};
 ghost use Rattle.filter_format.specs.Undo.{roomOf, secondAfter, undo};
 ghost use Rattle.io.specs.Counts.{Counts};
 ghost use Rattle.lines.specs.Lines.{tooLong};
-ghost use Rattle.unfiltering.specs.Unfiltering.{textOf, printedBy, Holds};
+ghost use Rattle.unfiltering.specs.Unfiltering.{textOf, printedBy};
 use answers::Answer;
 use filters::inner::clear_behind;
 use filters::undo;
@@ -16,7 +16,9 @@ use lines::inner::put_too_long;
 // Puts the line of an input that is too long.
 fn put_long(first: &mut [u8], second: &mut [u8]) -> usize
     requires { ⌜ 64 ≤ length (now first) ⌝ }
-    ensures { λ r. ⌜ Holds tooLong (now (first .entry)) (now (first .exit)) (now (second .entry)) (now (second .exit)) r ⌝ }
+    ensures { λ r. ⌜ r ≡ length tooLong ⌝ }
+    ensures { λ _. ⌜ now (first .exit) ≡ filled (length (now (first .entry))) tooLong ⌝ }
+    ensures { λ _. ⌜ now (second .exit) ≡ secondAfter (now (second .entry)) ⌝ }
 {
     let n = put_too_long(first, 0);
     clear_behind(first, n);
@@ -27,7 +29,9 @@ fn put_long(first: &mut [u8], second: &mut [u8]) -> usize
 // Puts a block's data, or the line of its refusal.
 fn put_undone(block: &[u8], first: &mut [u8], second: &mut [u8]) -> usize
     requires { ⌜ 64 ≤ length (now first) ⌝ }
-    ensures { λ r. ⌜ Holds (textOf (undo (roomOf (now (first .entry)) (now (second .entry))) (now (block .entry)))) (now (first .entry)) (now (first .exit)) (now (second .entry)) (now (second .exit)) r ⌝ }
+    ensures { λ r. ⌜ r ≡ length (textOf (undo (roomOf (now (first .entry)) (now (second .entry))) (now (block .entry)))) ⌝ }
+    ensures { λ _. ⌜ now (first .exit) ≡ filled (length (now (first .entry))) (textOf (undo (roomOf (now (first .entry)) (now (second .entry))) (now (block .entry)))) ⌝ }
+    ensures { λ _. ⌜ now (second .exit) ≡ secondAfter (now (second .entry)) ⌝ }
 {
     let result = undo(block, first, second);
     let answer = result.answer;

@@ -17,22 +17,6 @@ use Rattle.filter_format.specs.Follow.{followed}
 use Rattle.filter_format.specs.Block.{filterOf, isFilter, headerLength, levelAt, followAt, badLevel}
 use Rattle.filter_format.specs.Undo.{Result, tested}
 
--- "42 (level, or follow bytes not 256 for 72)": the level is judged for 64 to 66 alone, the follow bytes for 72 alone
-unfoldable pub badGiven : Filter → ℕ → List ℕ → Bool
-badGiven Raw level follow = false
-badGiven (Delta w) level follow = badLevel level
-badGiven (Narrow w) level follow = false
-badGiven Follow level follow = not (eqb (length follow) 256)
-badGiven Other level follow = false
-
--- "43": the data are not whole units
-unfoldable pub badUnits : Filter → List ℕ → Bool
-badUnits Raw s = false
-badUnits (Delta w) s = notWhole w s
-badUnits (Narrow w) s = notWhole w s
-badUnits Follow s = false
-badUnits Other s = false
-
 -- the header behind the format byte
 unfoldable pub headerRest : Filter → ℕ → List ℕ → List ℕ
 headerRest Raw level follow = []
@@ -49,9 +33,25 @@ encodedData (Narrow w) level follow s = narrow w (unitsOf w s)
 encodedData Follow level follow s = followed follow s
 encodedData Other level follow s = []
 
--- one layer
+-- the block that one layer over the data s makes
 unfoldable pub encoded : ℕ → ℕ → List ℕ → List ℕ → List ℕ
 encoded format level follow s = format ∷ (headerRest (filterOf format) level follow ++ encodedData (filterOf format) level follow s)
+
+-- "42 (level, or follow bytes not 256 for 72)": the level is judged for 64 to 66 alone, the follow bytes for 72 alone
+unfoldable pub badGiven : Filter → ℕ → List ℕ → Bool
+badGiven Raw level follow = false
+badGiven (Delta w) level follow = badLevel level
+badGiven (Narrow w) level follow = false
+badGiven Follow level follow = not (eqb (length follow) 256)
+badGiven Other level follow = false
+
+-- "43": the data are not whole units
+unfoldable pub badUnits : Filter → List ℕ → Bool
+badUnits Raw s = false
+badUnits (Delta w) s = notWhole w s
+badUnits (Narrow w) s = notWhole w s
+badUnits Follow s = false
+badUnits Other s = false
 
 -- "Encoding one layer refuses 41 (format not 64 to 66 or 70 to 72), 42 (level, or follow bytes not 256 for 72), 43, 26 in that order"
 unfoldable pub encodeTest : ℕ → ℕ → ℕ → List ℕ → List ℕ → Answer
@@ -61,7 +61,7 @@ encodeTest room format level follow s =
     then when (badUnits (filterOf format) s) 43 0
     then when (ltb room (length (encoded format level follow s))) 26 0
 
--- the layer, or its refusal
+-- that block, or its refusal
 unfoldable pub encode : ℕ → ℕ → ℕ → List ℕ → List ℕ → Result
 encode room format level follow s = tested (encodeTest room format level follow s) (encoded format level follow s)
 
@@ -69,7 +69,7 @@ encode room format level follow s = tested (encodeTest room format level follow 
 abbrev pub outAfter : Result → List ℕ → List ℕ
 outAfter result out = putAt 0 (result .bytes) out
 
--- "Encode after undo returns the block for 64, 65, 66, 72 (same level and follow bytes); not for 70, 71": whether it does for the block b of that filter
+-- "Encode after undo returns the block for 64, 65, 66, 72 (same level and follow bytes); not for 70, 71": what it asks for a block b of that filter
 abbrev pub SameFor : Filter → List ℕ → ℕ → List ℕ → Type 0
 SameFor Raw b level follow = ⊥
 SameFor (Delta w) b level follow = level ≡ levelAt b

@@ -1,4 +1,4 @@
--- In document 01's order: units; the filters; a block; undoing; encoding; SCF samples.
+-- In document 01's order: units; the filters; a block; undoing; encoding; SCF samples; the numbers that each call may answer with.
 pub mod Units
 pub mod Delta
 pub mod Narrow
@@ -7,3 +7,4 @@ pub mod Block
 pub mod Undo
 pub mod Encode
 pub mod Samples
+pub mod Numbers

@@ -7,7 +7,7 @@ use lib.ListN.{length, take}
 use Rattle.octets.specs.Parts.{up8}
 use Rattle.octets.specs.Numbers.{Bytes, Words}
 use Rattle.octets.specs.Scans.{Every, isFlowCharacter, isNameByte}
-use Rattle.sff_format.specs.Model.{Read, File, layoutHeader, layoutReads}
+use Rattle.sff_format.specs.Model.{Read, File, layoutHeader, layoutReads, layout}
 use Rattle.sff_format.specs.Rules.{leftLimit, rightLimit, declared, badIndex, walkRun, callRun}
 
 -- a read of a file with these flow characters
@@ -44,3 +44,7 @@ pub record Valid (f : File) : Type 0 where
   pub index-good : badIndex (f .index .offset) (length (f .index .bytes)) ≡ false
   pub index-met : declared (f .index .offset) (length (f .index .bytes)) ≡ true → Boundary f (f .index .offset)
   pub reads-good : ValidReads (f .flow-characters) (f .reads)
+
+-- "keeps the SFF rules": the bytes are such a file, written afresh
+abbrev pub IsFile : List ℕ → Type 0
+IsFile b = (f : File) × Valid f × (layout f ≡ b)

@@ -28,7 +28,7 @@ use Rattle.sff_correction.specs.Edit.{edited}
 use Rattle.sff_correction.specs.InOrder.{reasonsAgainst}
 use Rattle.sff_correction.specs.Correct.{correctOutcome, correctBuffer}
 use Rattle.sff_correction.specs.ListRun.{runList}
-use Rattle.sff_correction.specs.ListModel.{reasonsInTurn, firstRefused, lastAnswer, listAfresh}
+use Rattle.sff_correction.specs.ListModel.{reasonsInTurn, firstRefused, lastTried, listAfresh}
 use Rattle.sff_correction.proofs.Answered.{first-answered, carried-exactly, refused-left, carried-left, carried-valid, corrected-written}
 use Rattle.sff_correction.proofs.ListClaim.{every-list, stop-most, stop-before, stop-first, stop-refused}
 use Rattle.filter_format.specs.Undo.{making, undoLayer}
@@ -153,7 +153,7 @@ pub record EveryList (buffer : List ℕ) (len : ℕ) (l : List ℕ) (f : File) (
   -- the next, if there is one, is refused, for the first reason that holds in its turn
   pub most : count ≤ all
   pub refused : count < all → NoneHolds (reasonsInTurn (length buffer) count l f) → ⊥
-  pub else-first : count < all → FirstHolds (reasonsInTurn (length buffer) count l f) (lastAnswer all count (length buffer) l f)
+  pub else-first : count < all → FirstHolds (reasonsInTurn (length buffer) count l f) (lastTried all count (length buffer) l f)
 
 pub list-corrected : (buffer : List ℕ) (len : ℕ) (l : List ℕ) → Bytes buffer → Bytes l
     → EveryList buffer len l (parse (take len buffer)) (length l / 96) (firstRefused (length l / 96) 0 (length buffer) l (parse (take len buffer)))

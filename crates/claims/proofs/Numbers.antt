@@ -9,12 +9,12 @@ use Rattle.sff_correction.proofs.ListClaim.{list-numbers}
 use Rattle.filter_format.specs.Undo.{roomOf}
 use Rattle.filter_format.proofs.Refusals.{undo-numbers, layer-numbers, encode-numbers, encode-samples-numbers, undo-samples-numbers}
 use lib.ListN.{length}
-use Rattle.claims.specs.Calls.{Call, header-test, file-test, step, position-test, signal-test, new-file, append, record-test, correct, correct-list, undo-block, undo-layer, encode-layer, encode-samples, undo-samples, answerOf, numbersOf}
+use Rattle.claims.specs.Calls.{Call, header-test, file-test, reader-step, position-test, signal-test, new-file, append, record-test, correct, correct-list, undo-block, undo-layer, encode-layer, encode-samples, undo-samples, answerOf, numbersOf}
 
 pub call-numbers : (c : Call) → Among (numbersOf c) (answerOf c)
 call-numbers (header-test b) = header-numbers b
 call-numbers (file-test b) = file-numbers b
-call-numbers (step b s) = step-numbers b s
+call-numbers (reader-step b s) = step-numbers b s
 call-numbers (position-test b i) = position-numbers b i
 call-numbers (signal-test b i) = signal-numbers b i
 call-numbers (new-file buffer characters key) = new-numbers (length buffer) characters key
@@ -33,7 +33,7 @@ pub never-zero : (c : Call) → among 0 (numbersOf c) ≡ false
 unfolding among
 never-zero (header-test b) = refl
 never-zero (file-test b) = refl
-never-zero (step b s) = refl
+never-zero (reader-step b s) = refl
 never-zero (position-test b i) = refl
 never-zero (signal-test b i) = refl
 never-zero (new-file buffer characters key) = refl

@@ -6,7 +6,7 @@ use Rattle.answers.specs.declared.Answer.{Answer}
 use Rattle.sff_format.specs.Model.{Read}
 use Rattle.sff_format.specs.HeaderTest.{headerTest}
 use Rattle.sff_format.specs.FileTest.{fileTest}
-use Rattle.sff_format.specs.Step.{State, stepTest}
+use Rattle.sff_format.specs.Step.{State, stepAnswer, step}
 use Rattle.sff_format.specs.Position.{positionTest, signalTest}
 use Rattle.sff_format.specs.Writing.{newTest, appendTest}
 use Rattle.sff_format.specs.Numbers.{headerNumbers, fileNumbers, stepNumbers, positionNumbers, signalNumbers, newNumbers, appendNumbers}
@@ -23,7 +23,7 @@ use Rattle.filter_format.specs.Numbers.{undoNumbers, layerNumbers, encodeNumber
 pub data Call : Type 0 where
   header-test : List ℕ → Call
   file-test : List ℕ → Call
-  step : List ℕ → State → Call
+  reader-step : List ℕ → State → Call
   position-test : List ℕ → ℕ → Call
   signal-test : List ℕ → ℕ → Call
   -- the buffer, flow characters, key
@@ -46,7 +46,7 @@ pub data Call : Type 0 where
 abbrev pub answerOf : Call → Answer
 answerOf (header-test b) = headerTest b
 answerOf (file-test b) = fileTest b
-answerOf (step b s) = stepTest b s
+answerOf (reader-step b s) = stepAnswer (step b s)
 answerOf (position-test b i) = positionTest b i
 answerOf (signal-test b i) = signalTest b i
 answerOf (new-file buffer characters key) = newTest (length buffer) characters key
@@ -63,7 +63,7 @@ answerOf (undo-samples precision s out) = undoSamples (length out) precision s .
 abbrev pub numbersOf : Call → List ℕ
 numbersOf (header-test b) = headerNumbers
 numbersOf (file-test b) = fileNumbers
-numbersOf (step b s) = stepNumbers
+numbersOf (reader-step b s) = stepNumbers
 numbersOf (position-test b i) = positionNumbers
 numbersOf (signal-test b i) = signalNumbers
 numbersOf (new-file buffer characters key) = newNumbers

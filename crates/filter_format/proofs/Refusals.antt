@@ -84,10 +84,6 @@ unfolding undoSamples
 undo-samples-numbers room precision s = either-numbers samplesNumbers (samplesTest room precision s) (making (undeltaBytes precision 2 s)) (samples-test-numbers room precision s) tt
 
 -- 0 is in none of these lists
-pub undo-zero : (room : ℕ) (b : List ℕ) → numberOf (undo room b .answer) ≡ 0 → undo room b .answer ≡ Accepted
-unfolding among
-undo-zero room b e = zero-accepted undoNumbers refl (undo room b .answer) (undo-numbers room b) e
-
 pub layer-zero : (room : ℕ) (b : List ℕ) → numberOf (undoLayer room b .answer) ≡ 0 → undoLayer room b .answer ≡ Accepted
 unfolding among
 layer-zero room b e = zero-accepted layerNumbers refl (undoLayer room b .answer) (layer-numbers room b) e

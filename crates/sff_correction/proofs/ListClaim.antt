@@ -30,7 +30,7 @@ use Rattle.sff_correction.specs.Reasons.{reasons}
 use Rattle.sff_correction.specs.Correct.{correctTest, corrected, correctOutcome, over, correctBuffer}
 use Rattle.sff_correction.specs.Numbers.{correctNumbers}
 use Rattle.sff_correction.specs.ListRun.{recordAt, Run, ran, turns, runList}
-use Rattle.sff_correction.specs.ListModel.{fileAfter, reasonFor, firstRefused, greatest, lastAnswer, runOn, reasonsInTurn, firstTest, listAfresh}
+use Rattle.sff_correction.specs.ListModel.{fileAfter, reasonFor, firstRefused, greatest, lastTried, runOn, reasonsInTurn, firstTest, listAfresh}
 use Rattle.sff_correction.proofs.Edited.{reasons-room, edited-valid}
 use Rattle.sff_correction.proofs.ListTurns.{turn-on, turn-stop, list-20, list-run, list-none}
 use Rattle.sff_correction.proofs.InOrder.{record-tests, reasons-judged, correct-numbers}
@@ -89,12 +89,12 @@ module _ (m k : ℕ) (b l : List ℕ) (f : File) (s : Held k b l f) where
       ∙ rw (held-new, settled-again (layout (fileAfter (suc k) l f)) (layout (fileAfter k l f)) (greatest k l f) b (s .low))
 
   step-stop : (all n p : ℕ) → k < all → reasonFor (length b) k l f ≡ Refused n p → turns (suc m) k now (length (layout (fileAfter k l f))) l ≡ runOn all k b l f
-  unfolding lastAnswer
+  unfolding lastTried
   step-stop all n p h e = turn-stop m k now (length (layout (fileAfter k l f))) l n p (held-test ∙ e) ∙ rw (lt-ltb k all h, e)
 
 turns-are : (m k : ℕ) (b l : List ℕ) (f : File) (all : ℕ) → Bytes l → all ≡ k + m → Held k b l f
     → turns m k (settled (layout (fileAfter k l f)) (greatest k l f) b) (length (layout (fileAfter k l f))) l ≡ runOn all (firstRefused m k (length b) l f) b l f
-unfolding turns firstRefused lastAnswer acceptedOr
+unfolding turns firstRefused lastTried acceptedOr
 turns-are zero k b l f all y e s = rw (le-ltb k all (omega arith))
 turns-are (suc m) k b l f all y e s = go (reasonFor (length b) k l f) refl (turns-are m (suc k) b l f all y (omega arith))
   where
@@ -203,8 +203,8 @@ module _ (room : ℕ) (l : List ℕ) (f : File) (all : ℕ) (y : Bytes l) where
   pub stop-before : (j : ℕ) → j < stop → NoneHolds (reasonsInTurn room j l f)
   stop-before j h = turn-judged room j l f y .none (none-before room l f all 0 j (omega arith) h)
 
-  pub stop-first : stop < all → FirstHolds (reasonsInTurn room stop l f) (lastAnswer all stop room l f)
-  unfolding lastAnswer
+  pub stop-first : stop < all → FirstHolds (reasonsInTurn room stop l f) (lastTried all stop room l f)
+  unfolding lastTried
   stop-first h = rw (lt-ltb stop all h) (turn-judged room stop l f y .first)
 
   pub stop-refused : stop < all → NoneHolds (reasonsInTurn room stop l f) → ⊥

@@ -42,13 +42,13 @@ greatest zero l f = length (layout f)
 greatest (suc n) l f = max (greatest n l f) (length (layout (fileAfter (suc n) l f)))
 
 -- what the last record tried was answered, where n of `all` were carried out
-unfoldable pub lastAnswer : ℕ → ℕ → ℕ → List ℕ → File → Answer
-lastAnswer all n room l f = cond (ltb n all) (reasonFor room n l f) Accepted
+unfoldable pub lastTried : ℕ → ℕ → ℕ → List ℕ → File → Answer
+lastTried all n room l f = cond (ltb n all) (reasonFor room n l f) Accepted
 
 -- the whole answer and the whole buffer, where n of `all` records were carried out: the file written afresh, zeros up to the greatest length, the rest as it was
 abbrev pub runOn : ℕ → ℕ → List ℕ → List ℕ → File → Run
 runOn all n buffer l f =
-    ran n (lastAnswer all n (length buffer) l f) (length (layout (fileAfter n l f))) (settled (layout (fileAfter n l f)) (greatest n l f) buffer)
+    ran n (lastTried all n (length buffer) l f) (length (layout (fileAfter n l f))) (settled (layout (fileAfter n l f)) (greatest n l f) buffer)
 
 -- what is asked before any record's own reasons: 14, the first record's 20, the file's refusal
 unfoldable pub firstTest : List ℕ → ℕ → List ℕ → Answer

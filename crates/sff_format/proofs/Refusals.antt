@@ -9,14 +9,15 @@ use Rattle.answers.specs.declared.Answer.{Answer}
 use Rattle.answers.specs.declared.Answer.the-variants.{Accepted, Refused}
 use Rattle.answers.specs.Answer.{numberOf, _then_, acceptedOr, among, Among}
 use Rattle.answers.proofs.Numbered.{zero-accepted, then-refusing, when-refusing, either-refusing, shifted-refusing, own-refusing, within, more-numbers}
-use Rattle.sff_format.specs.HeaderTest.{fixedTest, charactersTest, headerTest, readCount, headerLength, flowCharacters}
+use Rattle.sff_format.specs.HeaderTest.{fixedTest, charactersTest, headerTest, readCount, headerLength, flows, flowCharacters}
 use Rattle.sff_format.specs.ReadTest.{nameTest, clipTest, basesTest, dataTest, readTest}
 use Rattle.sff_format.specs.FileTest.{indexHere, passTest, indexTest, endTest, boundaryTest, fileTest}
 use Rattle.sff_format.specs.Model.{Read, File}
 use Rattle.sff_format.specs.Position.{positionTest, signalTest}
 use Rattle.sff_format.specs.Writing.{newTest, newOutcome, givenTest, openTest, appendTest, appendOutcome, Left, newIn, appendTo, appendEach, writeEach}
+use Rattle.sff_format.specs.View.{viewAt}
 use Rattle.sff_format.specs.Numbers.{headerNumbers, fileNumbers, stepNumbers, positionNumbers, signalNumbers, newNumbers, appendNumbers}
-use Rattle.sff_format.specs.Step.{State, boundary, indexPassed, readOrNone, stepTest}
+use Rattle.sff_format.specs.Step.{State, boundary, indexPassed, readOrNone, stepTest, moved, concluded, stepAnswer, step}
 
 -- the tests in their order
 pub header-numbers : (b : List ℕ) → Among headerNumbers (headerTest b)
@@ -101,9 +102,9 @@ file-numbers b = then-refusing _ _ _ (header-in-file b) (boundary-numbers b (rea
 file-in : (ns : List ℕ) → within fileNumbers ns ≡ true → (a : Answer) → Among fileNumbers a → Among ns a
 file-in ns w a h = more-numbers fileNumbers ns w a h
 
-pub step-numbers : (b : List ℕ) (s : State) → Among stepNumbers (stepTest b s)
+step-test-numbers : (b : List ℕ) (s : State) → Among stepNumbers (stepTest b s)
 unfolding stepTest readOrNone among
-step-numbers b s =
+step-test-numbers b s =
     then-refusing _ _ _ (file-in stepNumbers refl (headerTest b) (header-in-file b))
     (
     then-refusing _ _ _ (when-refusing _ _ 1 _ refl)
@@ -122,6 +123,18 @@ step-numbers b s =
     )
     )
     )
+
+-- a step's number and place are its test's
+step-answered : (b : List ℕ) (s : State) → stepAnswer (step b s) ≡ stepTest b s
+unfolding step concluded
+step-answered b s = go (stepTest b s)
+  where
+    go : (a : Answer) → stepAnswer (concluded a (viewAt (flows b) b (boundary b s)) (moved b s) s) ≡ a
+    go Accepted = refl
+    go (Refused n p) = refl
+
+pub step-numbers : (b : List ℕ) (s : State) → Among stepNumbers (stepAnswer (step b s))
+step-numbers b s = rw (step-answered b s) (step-test-numbers b s)
 
 pub position-numbers : (b : List ℕ) (i : ℕ) → Among positionNumbers (positionTest b i)
 unfolding positionTest among
@@ -169,22 +182,6 @@ append-numbers buffer len r =
 pub file-zero : (b : List ℕ) → numberOf (fileTest b) ≡ 0 → fileTest b ≡ Accepted
 unfolding among
 file-zero b e = zero-accepted fileNumbers refl (fileTest b) (file-numbers b) e
-
-pub step-zero : (b : List ℕ) (s : State) → numberOf (stepTest b s) ≡ 0 → stepTest b s ≡ Accepted
-unfolding among
-step-zero b s e = zero-accepted stepNumbers refl (stepTest b s) (step-numbers b s) e
-
-pub position-zero : (b : List ℕ) (i : ℕ) → numberOf (positionTest b i) ≡ 0 → positionTest b i ≡ Accepted
-unfolding among
-position-zero b i e = zero-accepted positionNumbers refl (positionTest b i) (position-numbers b i) e
-
-pub signal-zero : (b : List ℕ) (i : ℕ) → numberOf (signalTest b i) ≡ 0 → signalTest b i ≡ Accepted
-unfolding among
-signal-zero b i e = zero-accepted signalNumbers refl (signalTest b i) (signal-numbers b i) e
-
-pub new-zero : (room : ℕ) (characters key : List ℕ) → numberOf (newTest room characters key) ≡ 0 → newTest room characters key ≡ Accepted
-unfolding among
-new-zero room characters key e = zero-accepted newNumbers refl (newTest room characters key) (new-numbers room characters key) e
 
 pub append-zero : (buffer : List ℕ) (len : ℕ) (r : Read) → numberOf (appendTest buffer len r) ≡ 0 → appendTest buffer len r ≡ Accepted
 unfolding among

@@ -66,7 +66,7 @@ refused-unchanged = refused-left
 
 -- "A file is accepted exactly if it keeps the SFF rules": if it is, byte for byte, some file that keeps them (`Valid`), written afresh (`layout`); and it is then that one alone.
 -- Code: `sff::file_test`, and `service::sffstore_test` over it.
--- Shuts out: a test that refuses everything (sff/refuses_everything, sff_header/header_refuses_all), one that accepts everything (sff/accepts_everything), and so each that gives one answer throughout; bytes left over (sff/leftover_bytes), padding that is
+-- Shuts out: a test that refuses everything (sff/refuses_everything), one that accepts everything (sff/accepts_everything), and so each that gives one answer throughout; bytes left over (sff/leftover_bytes), padding that is
 -- not tested (sff_header/padding_not_tested), a base that is not the flow's (sff_walk/any_base).
 pub accepted-exactly : (b : List ℕ) → (Bytes b × (numberOf (fileTest b) ≡ 0)) ↔ IsFile b
 accepted-exactly b = ((λ t. accepted b .0 (t .0, file-zero b (t .1))), (λ t. (accepted b .1 t .0, ap numberOf (accepted b .1 t .1))))

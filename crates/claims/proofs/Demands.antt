@@ -134,6 +134,7 @@ one-record buffer len r y z = record {
 
 -- So a file without index that is corrected in place is the one that a new file and an append for each of its reads, with that one changed or left out, leave in any buffer that holds it.
 -- Code: `sff_corrector::correct`; `sff_writer::new_file` and `append`.
+-- Shuts out: a corrector and a writer that lay a read out each in its own way (sff_edit/name_length_not_written, sff_sections/name_for_the_bases).
 pub in-place-is-afresh : (buffer : List ℕ) (len : ℕ) (r : List ℕ) → Bytes buffer → Bytes r → numberOf (correctOutcome buffer len r .answer) ≡ 0 → parse (take len buffer) .index ≡ noIndex
     → (other : List ℕ) → length (layout (edited r (parse (take len buffer)))) ≤ length other
     → writeEach other (edited r (parse (take len buffer)))

@@ -1,6 +1,7 @@
-//! Writes the stored runs of `correct` and `correct_runs`, and samples for people.
+//! Writes the stored runs of `correct` and `correct_runs`, and samples of files and lists for people.
 //!
-//!     second-list-runs CRATES-FOLDER SAMPLE-FOLDER
+//!     second-list-runs CRATES-FOLDER     the stored runs
+//!     second-list-runs samples FOLDER    the samples
 //!
 //! Files and lists are laid out from their fields. Each case says what is answered; the second
 //! implementation must answer the same, and what is printed beside it is its own.
@@ -9,12 +10,15 @@ mod calls;
 mod correcting;
 mod corrections;
 mod inputs;
+mod plates;
+mod sample_lists;
 mod samples;
 mod sff;
 mod writing;
 
 use correcting::{correct_list, ListRun};
 use corrections::Record;
+use sample_lists::SAMPLE_LISTS;
 use samples::{e_with, file, read, two_reads, E};
 use std::fs;
 use std::process::exit;
@@ -321,29 +325,48 @@ fn write_run(crate_folder: &str) -> Result<(), String> {
     write(format!("{crate_folder}/stdout"), &text)
 }
 
-/// For people: a file, a list and the new file.
+/// For people: a file, and its listing beside it.
+fn write_file(folder: &str, name: &str, bytes: &[u8]) -> Result<(), String> {
+    write(format!("{folder}/{name}.sff"), bytes)?;
+    write(format!("{folder}/{name}.txt"), &sff::listing(bytes))
+}
+
+/// For people: files, lists with their words beside them, and the new files.
 fn write_samples(folder: &str) -> Result<(), String> {
-    let (files, lists) = (files(), lists());
     make_folder(folder)?;
-    let renamed = ("e", "rename-9", "rename");
-    let removed = ("three", "first-two", "remove");
-    for (file, list, name) in [renamed, removed] {
-        let (bytes, records) = (named(&files, file), named(&lists, list));
-        let new = new_file(bytes, records).expect("a new file");
-        write(format!("{folder}/{file}.sff"), bytes)?;
-        write(format!("{folder}/{file}-{name}.records"), records)?;
-        write(format!("{folder}/{file}-{name}d.sff"), &new)?;
+    let files = [
+        ("e", E.to_vec()),
+        ("three", three()),
+        ("indexed", plates::indexed()),
+        ("plate", plates::plate()),
+    ];
+    let files = files.map(|(name, bytes)| (name.to_string(), bytes));
+    for (name, bytes) in &files {
+        write_file(folder, name, bytes)?;
+    }
+    for list in SAMPLE_LISTS {
+        let (bytes, records) = (named(&files, list.file), list.records());
+        printed(bytes, &records, Some(list.answer));
+        write(format!("{folder}/{}.records", list.name), &records)?;
+        write(format!("{folder}/{}.txt", list.name), list.words.as_bytes())?;
+        match (new_file(bytes, &records), list.new) {
+            (Some(new), Some(name)) => write_file(folder, name, &new)?,
+            (new, name) => assert!(new.is_none() && name.is_none(), "{}", list.name),
+        }
     }
     Ok(())
 }
 
 fn main() {
     let arguments: Vec<String> = std::env::args().skip(1).collect();
-    let done = match &arguments[..] {
-        [crates, samples] => write_runs(&format!("{crates}/correct_runs"))
-            .and_then(|()| write_run(&format!("{crates}/correct")))
-            .and_then(|()| write_samples(samples)),
-        _ => Err("usage: second-list-runs CRATES-FOLDER SAMPLE-FOLDER".to_string()),
+    let words: Vec<&str> = arguments.iter().map(String::as_str).collect();
+    let done = match words[..] {
+        ["samples", folder] => write_samples(folder),
+        [crates] => write_runs(&format!("{crates}/correct_runs"))
+            .and_then(|()| write_run(&format!("{crates}/correct"))),
+        _ => Err(
+            "usage: second-list-runs CRATES-FOLDER, or second-list-runs samples FOLDER".to_string(),
+        ),
     };
     if let Err(message) = done {
         eprintln!("{message}");

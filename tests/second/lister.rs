@@ -1,7 +1,7 @@
 //! Compares the lister with the second implementation.
 //!
 //!     second-lister PATH-OF-LISTER SEED COUNT   the comparison
-//!     second-lister samples FOLDER              writes the sample files and their listings
+//!     second-lister samples FOLDER              writes files of the stored runs and their listings
 //!     second-lister listing                     prints the listing of standard input
 //!
 //! The comparison ends with 1 at the first difference, and also if an answer never occurred (a run

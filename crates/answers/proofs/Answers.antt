@@ -13,7 +13,7 @@ use Rattle.octets.proofs.Lists.{length-part}
 use Rattle.octets.proofs.Scan.{run-le}
 use Rattle.answers.specs.declared.Answer.{Answer}
 use Rattle.answers.specs.declared.Answer.the-variants.{Accepted, Refused}
-use Rattle.answers.specs.Answer.{placeOf, when, stopped, shifted, own, _then_}
+use Rattle.answers.specs.Answer.{numberOf, placeOf, when, stopped, shifted, own, _then_, acceptedOr}
 
 -- the code's tests as those of the definitions, for `search`
 pub ruleset tests = (lt-ltb, le-ltb, eq-eqb, ne-eqb)
@@ -117,6 +117,12 @@ own-ok (Refused n p) e = not-accepted n 0 e
 pub ok-own : (a : Answer) → a ≡ Accepted → own a ≡ Accepted
 unfolding own
 ok-own a e = rw e
+
+-- what is chosen where a test has another number than 0
+pub refused-or : {A : Type 0} (a : Answer) (x y : A) → (numberOf a ≡ 0 → ⊥) → acceptedOr a x y ≡ y
+unfolding acceptedOr
+refused-or Accepted x y h = absurd (h refl)
+refused-or (Refused n p) x y h = refl
 
 -- the place of a chain of scans that refuses lies before the end
 pub refused-not : {A : Type 0} (n p : ℕ) → Accepted ≡ Refused n p → A

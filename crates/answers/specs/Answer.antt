@@ -1,7 +1,9 @@
 -- What a test answers, and how tests follow one another. Assumes nothing: these are definitions.
 use Prim.Native.Nat.{ℕ, _+_}
-use mathlib.Core.Bool.{Bool, true, false}
-use lib.Dec.{ltb}
+use mathlib.Core.Path.{_≡_}
+use mathlib.Core.Bool.{Bool, true, false, _||_}
+use mathlib.Core.List.{List, [], _∷_}
+use lib.Dec.{ltb, eqb}
 use Rattle.answers.specs.declared.Answer.{Answer}
 use Rattle.answers.specs.declared.Answer.the-variants.{Accepted, Refused}
 
@@ -43,3 +45,17 @@ own (Refused n p) = Refused n 0
 unfoldable pub acceptedOr : {A : Type 0} → Answer → A → A → A
 acceptedOr Accepted x y = x
 acceptedOr (Refused n p) x y = y
+
+-- a refusal's number and place have the property; nothing is asked of acceptance
+abbrev pub Refusing : (ℕ → ℕ → Type 0) → Answer → Type 0
+Refusing P Accepted = Unit {0}
+Refusing P (Refused n p) = P n p
+
+-- n is one of the numbers
+unfoldable pub among : ℕ → List ℕ → Bool
+among n [] = false
+among n (m ∷ ms) = eqb n m || among n ms
+
+-- accepted, or refused with one of these numbers
+abbrev pub Among : List ℕ → Answer → Type 0
+Among ns a = Refusing (λ n p. among n ns ≡ true) a

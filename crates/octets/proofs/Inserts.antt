@@ -5,7 +5,8 @@ use mathlib.Core.List.{List, _++_, append-assoc}
 use native.Mathlib.Omega.{arith}
 use lib.ListN.{length, take, drop, length-append, length-take, length-drop, take-append-drop}
 use lib.Seq.{drop-drop, drop-at, length-take-le, take-append-seam, drop-append-seam, take-append-le, drop-append-le, take-append-add, drop-append-add}
-use Rattle.octets.specs.Parts.{insertAt, Stands}
+use Rattle.octets.specs.Parts.{insertAt}
+use Rattle.octets.proofs.Stands.{Stands}
 
 pub insert-zero : (xs l : List ℕ) → insertAt 0 xs l ≡ xs ++ l
 unfolding insertAt

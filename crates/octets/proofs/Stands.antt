@@ -8,13 +8,17 @@ use native.Mathlib.Omega.{arith}
 use borrow.Author.Tests.{eqb-true}
 use lib.ListN.{length, take, drop, replicate, length-append, length-take, length-drop, length-replicate}
 use lib.Seq.{take-add, drop-drop, take-at, drop-at, take-length}
-use Rattle.octets.specs.Parts.{part, filled, Stands}
+use Rattle.octets.specs.Parts.{part, filled}
 use Rattle.octets.specs.Numbers.{bigEndian, bytesOf, Below, Bytes, number, fields, unitBytes, unitsAt}
 use Rattle.octets.specs.Scans.{run, isZero, Every, fails}
 use Rattle.octets.proofs.Lists.{length-part, part-take}
 use Rattle.octets.proofs.Digits.{length-bytesOf, bigEndian-fits, bytesOf-bigEndian, bigEndian-small}
 use Rattle.octets.proofs.AllBytes.{bytes-part}
 use Rattle.octets.proofs.Every.{none-fails, every-left}
+
+-- xs stands in b at place p
+abbrev pub Stands : ℕ → List ℕ → List ℕ → Type 0
+Stands p xs b = part p (length xs) b ≡ xs
 
 -- what is read stands there
 pub read-stands : (p n : ℕ) (b : List ℕ) → p + n ≤ length b → Stands p (part p n b) b

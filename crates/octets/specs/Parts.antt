@@ -1,7 +1,6 @@
 -- Parts of a list of bytes, and what is put into it. Assumes nothing: these are definitions.
 use Prim.Native.Nat.{ℕ, _+_, _-_, _*_, _/_}
 use mathlib.Core.Bool.{Bool, true, false, cond, _&&_}
-use mathlib.Core.Path.{_≡_}
 use mathlib.Core.List.{List, [], _∷_, _++_}
 use lib.ListN.{length, take, drop, replicate}
 use lib.Dec.{eqb, leb}
@@ -41,10 +40,6 @@ settled new m buffer = filled m new ++ drop m buffer
 -- a buffer whose first `end` bytes are a file, with xs in the place of the file's n bytes from place `at` on: what follows them is moved, and what is freed is zero
 unfoldable pub spliced : ℕ → ℕ → ℕ → List ℕ → List ℕ → List ℕ
 spliced at n end xs buffer = putAt at (xs ++ (part (at + n) (end - (at + n)) buffer ++ replicate (n - length xs) 0)) buffer
-
--- xs stands in b at place p
-abbrev pub Stands : ℕ → List ℕ → List ℕ → Type 0
-Stands p xs b = part p (length xs) b ≡ xs
 
 -- whether two lists are the same
 unfoldable pub same : List ℕ → List ℕ → Bool

@@ -5,9 +5,10 @@ pub mod RecordsLaid
 pub mod Edited
 pub mod EditedSizes
 pub mod EditedBytes
--- A record is refused exactly if one of its reasons holds.
-pub mod NoReasons
+-- A record is refused for the first of its reasons that holds.
+pub mod InOrder
 -- One correction; a list of them, and the claim over every list.
 pub mod Carried
+pub mod Answered
 pub mod ListTurns
 pub mod ListClaim

@@ -1,11 +1,11 @@
 -- One claim over every list of whole records on any accepted file: the whole answer and the whole buffer, over the model of the file. Assumes nothing.
-use Prim.Native.Nat.{ℕ, zero, suc, _+_, _*_, _/_, _%_, _≤_, _<_}
+use Prim.Native.Nat.{ℕ, zero, suc, _+_, _-_, _*_, _/_, _%_, _≤_, _<_}
 use mathlib.Core.Path.{_≡_, refl, sym, ap, _∙_}
-use mathlib.Core.Bool.{Bool, true, false}
+use mathlib.Core.Bool.{Bool, true, false, cond, not}
 use mathlib.Core.List.{List}
 use native.Mathlib.Omega.{arith}
-use borrow.Author.Tests.{lt-ltb, le-ltb, leb-true, leb-false}
-use lib.Dec.{ltb, leb}
+use borrow.Author.Tests.{lt-ltb, le-ltb, leb-true, leb-false, eqb-true, eqb-false}
+use lib.Dec.{ltb, leb, eqb}
 use lib.ListN.{length, take}
 use lib.Seq.{length-take-le}
 use Rattle.octets.specs.Parts.{settled}
@@ -14,22 +14,26 @@ use Rattle.octets.proofs.AllBytes.{bytes-take, bytes-part}
 use Rattle.octets.proofs.Settled.{take-settled, length-settled, settled-front, settled-again}
 use Rattle.answers.specs.declared.Answer.{Answer}
 use Rattle.answers.specs.declared.Answer.the-variants.{Accepted, Refused}
-use Rattle.answers.specs.Answer.{acceptedOr, when, _then_}
+use Rattle.answers.specs.Answer.{acceptedOr, when, _then_, among, Among}
+use Rattle.answers.specs.Reasons.{NoneHolds, FirstHolds}
 use Rattle.sff_format.specs.Model.{File, layout}
 use Rattle.sff_format.specs.Valid.{Valid}
 use Rattle.sff_format.specs.FileTest.{fileTest}
 use Rattle.sff_format.specs.Parse.{parse}
-use Rattle.answers.proofs.Answers.{first-ok, second-ok, not-accepted}
+use Rattle.answers.proofs.Answers.{first-ok, second-ok, not-accepted, then-assoc, under-ok}
+use Rattle.answers.proofs.Reasons.{Judged, chain-judged, none-accepted}
 use Rattle.sff_format.proofs.FileLaid.{file-laid, file-valid}
 use Rattle.sff_format.proofs.FileTaken.{file-taken, file-back}
 use Rattle.sff_correction.specs.Record.{recordTest}
 use Rattle.sff_correction.specs.Edit.{edited}
 use Rattle.sff_correction.specs.Reasons.{reasons}
-use Rattle.sff_correction.specs.Correct.{correctTest, corrected, over}
-use Rattle.sff_correction.specs.ListRun.{recordAt, turns, runList}
-use Rattle.sff_correction.specs.ListModel.{fileAfter, reasonFor, firstRefused, greatest, lastAnswer, runOn}
+use Rattle.sff_correction.specs.Correct.{correctTest, corrected, correctOutcome, over, correctBuffer}
+use Rattle.sff_correction.specs.Numbers.{correctNumbers}
+use Rattle.sff_correction.specs.ListRun.{recordAt, Run, ran, turns, runList}
+use Rattle.sff_correction.specs.ListModel.{fileAfter, reasonFor, firstRefused, greatest, lastTried, runOn, reasonsInTurn, firstTest, listAfresh}
 use Rattle.sff_correction.proofs.Edited.{reasons-room, edited-valid}
-use Rattle.sff_correction.proofs.ListTurns.{turn-on, turn-stop, list-run}
+use Rattle.sff_correction.proofs.ListTurns.{turn-on, turn-stop, list-20, list-run, list-none}
+use Rattle.sff_correction.proofs.InOrder.{record-tests, reasons-judged, correct-numbers}
 
 -- on a buffer that holds a file that keeps the rules, the tests are those over the model
 module _ (f : File) (m : ℕ) (b : List ℕ) (v : Valid f) (h : length (layout f) ≤ m) (i : m ≤ length b) (r : List ℕ) where
@@ -85,12 +89,12 @@ module _ (m k : ℕ) (b l : List ℕ) (f : File) (s : Held k b l f) where
       ∙ rw (held-new, settled-again (layout (fileAfter (suc k) l f)) (layout (fileAfter k l f)) (greatest k l f) b (s .low))
 
   step-stop : (all n p : ℕ) → k < all → reasonFor (length b) k l f ≡ Refused n p → turns (suc m) k now (length (layout (fileAfter k l f))) l ≡ runOn all k b l f
-  unfolding lastAnswer
+  unfolding lastTried
   step-stop all n p h e = turn-stop m k now (length (layout (fileAfter k l f))) l n p (held-test ∙ e) ∙ rw (lt-ltb k all h, e)
 
 turns-are : (m k : ℕ) (b l : List ℕ) (f : File) (all : ℕ) → Bytes l → all ≡ k + m → Held k b l f
     → turns m k (settled (layout (fileAfter k l f)) (greatest k l f) b) (length (layout (fileAfter k l f))) l ≡ runOn all (firstRefused m k (length b) l f) b l f
-unfolding turns firstRefused lastAnswer acceptedOr
+unfolding turns firstRefused lastTried acceptedOr
 turns-are zero k b l f all y e s = rw (le-ltb k all (omega arith))
 turns-are (suc m) k b l f all y e s = go (reasonFor (length b) k l f) refl (turns-are m (suc k) b l f all y (omega arith))
   where
@@ -146,3 +150,85 @@ module _ (room : ℕ) (l : List ℕ) (f : File) where
           → (firstRefused m (suc k) room l f < suc k + m → reasonFor room (firstRefused m (suc k) room l f) l f ≡ Accepted → ⊥) → ⊥
       go Accepted x y z ih = ih (omega arith) z
       go (Refused n p) x y z ih = not-accepted n p (sym x ∙ z)
+
+-- a record's reasons in its turn, in words of the model
+pub turn-judged : (room k : ℕ) (l : List ℕ) (f : File) → Bytes l → Judged (reasonsInTurn room k l f) (reasonFor room k l f)
+unfolding reasonFor
+turn-judged room k l f y =
+    chain-judged _ _ _ _ (record-tests (recordAt k l) (bytes-part (96 * k) 96 l y)) (λ e. reasons-judged room (recordAt k l) (fileAfter k l f))
+
+-- any list on any buffer with any stated length
+module _ (b : List ℕ) (len : ℕ) (l : List ℕ) where
+  first-then : correctTest b len (recordAt 0 l) ≡ (firstTest b len l then reasons (length b) (recordAt 0 l) (parse (take len b)))
+  unfolding correctTest firstTest
+  first-then = sym (then-assoc _ _ _ ∙ ap (λ (a : Answer). when (ltb (length b) len) 14 0 then a) (then-assoc _ _ _))
+
+  first-inside : firstTest b len l ≡ Accepted → len ≤ length b
+  unfolding firstTest
+  first-inside e = under-ok _ _ _ _ (first-ok _ _ e)
+
+  first-file : firstTest b len l ≡ Accepted → fileTest (take len b) ≡ Accepted
+  unfolding firstTest
+  first-file e = second-ok _ _ (second-ok _ _ e)
+
+  first-stop : (m : ℕ) → length l / 96 ≡ suc m → length l % 96 ≡ 0 → (n p : ℕ) → firstTest b len l ≡ Refused n p → runList b len l ≡ ran 0 (Refused n p) len b
+  unfolding _then_
+  first-stop m e w n p t = list-run b len l w ∙ rw e (turn-stop m 0 b len l n p (first-then ∙ rw t))
+
+  pub every-list : Bytes b → Bytes l → runList b len l ≡ listAfresh b len l
+  unfolding listAfresh acceptedOr
+  every-list y z = go (eqb (length l % 96) 0) refl (eqb (length l) 0) refl (firstTest b len l) refl
+    where
+      after : Run
+      after = runOn (length l / 96) (firstRefused (length l / 96) 0 (length b) l (parse (take len b))) b l (parse (take len b))
+
+      go : (s : Bool) → eqb (length l % 96) 0 ≡ s → (t : Bool) → eqb (length l) 0 ≡ t → (a : Answer) → firstTest b len l ≡ a
+          → runList b len l ≡ cond (not s) (ran 0 (Refused 20 0) len b) (cond t (ran 0 Accepted len b) (acceptedOr a after (ran 0 a len b)))
+      go false e t d a c = list-20 b len l (eqb-false (length l % 96) 0 e)
+      go true e true d a c = let x = eqb-true (length l) 0 d in list-none b len l (eqb-true (length l % 96) 0 e) (rw x)
+      go true e false d Accepted c = list-claim b len l y z (first-inside c) (first-file c) (eqb-true (length l % 96) 0 e)
+      go true e false d (Refused n p) c =
+          let w = eqb-true (length l % 96) 0 e in
+          let x = eqb-false (length l) 0 d in
+          first-stop (length l / 96 - 1) (omega (arith, w, x)) w n p c
+
+-- the number of records that are carried out on an accepted file, by the reasons in words of the model: none holds of a record before it, and one holds of the record at it
+module _ (room : ℕ) (l : List ℕ) (f : File) (all : ℕ) (y : Bytes l) where
+  abbrev stop : ℕ
+  stop = firstRefused all 0 room l f
+
+  pub stop-most : stop ≤ all
+  stop-most = let h = first-most room l f all 0 in omega (arith, h)
+
+  pub stop-before : (j : ℕ) → j < stop → NoneHolds (reasonsInTurn room j l f)
+  stop-before j h = turn-judged room j l f y .none (none-before room l f all 0 j (omega arith) h)
+
+  pub stop-first : stop < all → FirstHolds (reasonsInTurn room stop l f) (lastTried all stop room l f)
+  unfolding lastTried
+  stop-first h = rw (lt-ltb stop all h) (turn-judged room stop l f y .first)
+
+  pub stop-refused : stop < all → NoneHolds (reasonsInTurn room stop l f) → ⊥
+  stop-refused h n = one-at room l f all 0 (omega (arith, h)) (none-accepted (reasonsInTurn room stop l f) (reasonFor room stop l f) (turn-judged room stop l f y .first) n)
+
+-- a list's answer has the number of a correction's
+either-numbers : (a : Answer) (v w : Run) → Among correctNumbers (v .outcome .answer) → Among correctNumbers (w .outcome .answer) → Among correctNumbers (acceptedOr a v w .outcome .answer)
+unfolding acceptedOr
+either-numbers Accepted v w h k = h
+either-numbers (Refused n p) v w h k = k
+
+turns-numbers : (m k : ℕ) (b : List ℕ) (len : ℕ) (l : List ℕ) → Among correctNumbers (turns m k b len l .outcome .answer)
+unfolding turns correctOutcome
+turns-numbers zero k b len l = tt
+turns-numbers (suc m) k b len l =
+    let r = recordAt k l in
+    let o = correctOutcome b len r in
+    either-numbers (correctTest b len r) (turns m (suc k) (correctBuffer b len r) (o .length) l) (ran k (o .answer) (o .length) (correctBuffer b len r))
+    (turns-numbers m (suc k) (correctBuffer b len r) (o .length) l) (correct-numbers b len r)
+
+pub list-numbers : (b : List ℕ) (len : ℕ) (l : List ℕ) → Among correctNumbers (runList b len l .outcome .answer)
+unfolding runList among
+list-numbers b len l = go (eqb (length l % 96) 0)
+  where
+    go : (t : Bool) → Among correctNumbers (cond t (turns (length l / 96) 0 b len l) (ran 0 (Refused 20 0) len b) .outcome .answer)
+    go true = turns-numbers (length l / 96) 0 b len l
+    go false = refl

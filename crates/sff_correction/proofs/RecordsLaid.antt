@@ -8,14 +8,14 @@ use native.Mathlib.Omega.{arith}
 use lib.ListN.{length, getD, length-append}
 use lib.Seq.{take-length}
 use borrow.Author.Tests.{le-ltb, eqb-true, eqb-false, eq-eqb, ne-eqb}
-use Rattle.octets.specs.Parts.{part, filled, Stands}
+use Rattle.octets.specs.Parts.{part, filled}
 use Rattle.octets.specs.Numbers.{Bytes, bytesOf, fields}
 use Rattle.octets.specs.Scans.{run, Every, isNameByte, isZero}
 use Rattle.octets.proofs.Lists.{part-suc, length-part}
 use Rattle.octets.proofs.AllBytes.{bytes-both, bytes-fields, bytes-filled, bytes-every}
 use Rattle.octets.proofs.Digits.{number-one}
 use Rattle.octets.proofs.Every.{none-fails, every-passes}
-use Rattle.octets.proofs.Stands.{Numbers, Fit, width, read-stands, stands-both, stands-left, stands-right, stands-self, length-filled, filled-stands, stands-filled, length-fields, fields-stand, stand-fields}
+use Rattle.octets.proofs.Stands.{Stands, Numbers, Fit, width, read-stands, stands-both, stands-left, stands-right, stands-self, length-filled, filled-stands, stands-filled, length-fields, fields-stand, stand-fields}
 use Rattle.answers.specs.declared.Answer.the-variants.{Accepted}
 use Rattle.answers.proofs.Answers.{both-ok, ok-when, ok-same}
 use Rattle.sff_format.proofs.Written.{name-small}

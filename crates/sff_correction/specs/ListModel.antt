@@ -1,17 +1,21 @@
--- A list of records over the model of an accepted file: the file as its records have left it. Assumes nothing: these are definitions.
-use Prim.Native.Nat.{ℕ, zero, suc, max}
-use mathlib.Core.Bool.{cond}
-use mathlib.Core.List.{List}
-use lib.ListN.{length}
-use lib.Dec.{ltb}
+-- A list of records over the model of the file, as its records have left it. Assumes nothing: these are definitions.
+use Prim.Native.Nat.{ℕ, zero, suc, _/_, _%_, max}
+use mathlib.Core.Bool.{cond, not}
+use mathlib.Core.List.{List, _∷_}
+use lib.ListN.{length, take}
+use lib.Dec.{ltb, eqb}
 use Rattle.octets.specs.Parts.{settled}
 use Rattle.answers.specs.declared.Answer.{Answer}
-use Rattle.answers.specs.declared.Answer.the-variants.{Accepted}
-use Rattle.answers.specs.Answer.{acceptedOr, _then_}
+use Rattle.answers.specs.declared.Answer.the-variants.{Accepted, Refused}
+use Rattle.answers.specs.Answer.{when, acceptedOr, _then_}
+use Rattle.answers.specs.Reasons.{Reason}
 use Rattle.sff_format.specs.Model.{File, layout}
+use Rattle.sff_format.specs.FileTest.{fileTest}
+use Rattle.sff_format.specs.Parse.{parse}
 use Rattle.sff_correction.specs.Record.{recordTest}
 use Rattle.sff_correction.specs.Edit.{edited}
 use Rattle.sff_correction.specs.Reasons.{reasons}
+use Rattle.sff_correction.specs.InOrder.{malformed, ownReasons}
 use Rattle.sff_correction.specs.ListRun.{recordAt, Run, ran}
 
 -- the file as the first n records of the list l, one after the other, have left it
@@ -22,6 +26,10 @@ fileAfter (suc n) l f = edited (recordAt n l) (fileAfter n l f)
 -- the first reason against the record at position k "in its turn", in a buffer of so many bytes
 unfoldable pub reasonFor : ℕ → ℕ → List ℕ → File → Answer
 reasonFor room k l f = recordTest (recordAt k l) then reasons room (recordAt k l) (fileAfter k l f)
+
+-- the same in words of the model: 14 and the file's refusal are not among them, since a record that was carried out leaves an accepted file in the buffer
+abbrev pub reasonsInTurn : ℕ → ℕ → List ℕ → File → List Reason
+reasonsInTurn room k l f = malformed (recordAt k l) ∷ ownReasons room (recordAt k l) (fileAfter k l f)
 
 -- the first of the m positions from k on for which a reason holds in its turn, or their end
 unfoldable pub firstRefused : ℕ → ℕ → ℕ → List ℕ → File → ℕ
@@ -34,10 +42,26 @@ greatest zero l f = length (layout f)
 greatest (suc n) l f = max (greatest n l f) (length (layout (fileAfter (suc n) l f)))
 
 -- what the last record tried was answered, where n of `all` were carried out
-unfoldable pub lastAnswer : ℕ → ℕ → ℕ → List ℕ → File → Answer
-lastAnswer all n room l f = cond (ltb n all) (reasonFor room n l f) Accepted
+unfoldable pub lastTried : ℕ → ℕ → ℕ → List ℕ → File → Answer
+lastTried all n room l f = cond (ltb n all) (reasonFor room n l f) Accepted
 
 -- the whole answer and the whole buffer, where n of `all` records were carried out: the file written afresh, zeros up to the greatest length, the rest as it was
 abbrev pub runOn : ℕ → ℕ → List ℕ → List ℕ → File → Run
 runOn all n buffer l f =
-    ran n (lastAnswer all n (length buffer) l f) (length (layout (fileAfter n l f))) (settled (layout (fileAfter n l f)) (greatest n l f) buffer)
+    ran n (lastTried all n (length buffer) l f) (length (layout (fileAfter n l f))) (settled (layout (fileAfter n l f)) (greatest n l f) buffer)
+
+-- what is asked before any record's own reasons: 14, the first record's 20, the file's refusal
+unfoldable pub firstTest : List ℕ → ℕ → List ℕ → Answer
+firstTest buffer len l = when (ltb (length buffer) len) 14 0 then recordTest (recordAt 0 l) then fileTest (take len buffer)
+
+-- any list on any buffer with any stated length. "A list's length is a multiple of 96, else 20 before all else, with nothing done"; "An empty list is carried out with
+-- count 0, the file untested and the length as given"; a list that stops there does nothing; and else those before the first for which a reason holds are carried out
+unfoldable pub listAfresh : List ℕ → ℕ → List ℕ → Run
+listAfresh buffer len l =
+    let all = length l / 96 in
+    let f = parse (take len buffer) in
+    cond (not (eqb (length l % 96) 0)) (ran 0 (Refused 20 0) len buffer)
+    (
+    cond (eqb (length l) 0) (ran 0 Accepted len buffer)
+    (acceptedOr (firstTest buffer len l) (runOn all (firstRefused all 0 (length buffer) l f) buffer l f) (ran 0 (firstTest buffer len l) len buffer))
+    )

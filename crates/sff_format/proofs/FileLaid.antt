@@ -9,7 +9,7 @@ use lib.ListN.{length, take, drop, length-append, drop-of-length-le, take-append
 use lib.Seq.{drop-drop}
 use lib.Dec.{eqb}
 use borrow.Author.Tests.{eqb-true, eqb-false}
-use Rattle.octets.specs.Parts.{part, insertAt, Stands}
+use Rattle.octets.specs.Parts.{part, insertAt}
 use Rattle.octets.specs.Numbers.{Bytes}
 use Rattle.octets.proofs.AllBytes.{bytes-part}
 use Rattle.answers.specs.declared.Answer.the-variants.{Accepted}
@@ -22,7 +22,7 @@ use Rattle.sff_format.specs.FileTest.{indexHere, passTest, endTest, boun
 use Rattle.sff_format.specs.Parse.{parseRead, parseReads, parse}
 use Rattle.sff_format.specs.Valid.{ValidRead, ValidReads, Valid}
 use Rattle.answers.proofs.Answers.{first-ok, second-ok, when-ok, under-ok}
-use Rattle.octets.proofs.Stands.{number-small, stands-fits}
+use Rattle.octets.proofs.Stands.{Stands, number-small, stands-fits}
 use Rattle.sff_format.proofs.Sizes.{length-header, layout-none}
 use Rattle.sff_format.proofs.Indexes.{indexOf, pass-fits, index-length, index-laid, index-taken}
 use Rattle.octets.proofs.Inserts.{insert-zero, insert-right, stands-drop}

@@ -6,7 +6,7 @@ use mathlib.Core.List.{List, [], _∷_, _++_}
 use native.Mathlib.Omega.{arith}
 use native.Mathlib.Nat.{zero-add}
 use lib.ListN.{length, take, drop, length-append, length-drop}
-use Rattle.octets.specs.Parts.{part, filled, insertAt, Stands}
+use Rattle.octets.specs.Parts.{part, filled, insertAt}
 use Rattle.answers.specs.declared.Answer.the-variants.{Accepted}
 use Rattle.answers.specs.Answer.{_then_}
 use Rattle.sff_format.specs.Model.{Read, Index, File, layoutRead, layoutReads, layoutHeader, layoutIndex, layout}
@@ -17,7 +17,7 @@ use Rattle.sff_format.specs.FileTest.{indexHere, passTest, endTest, boun
 use Rattle.sff_format.specs.Parse.{parseRead, parseReads, parse}
 use Rattle.sff_format.specs.Valid.{ValidRead, ValidReads, Valid}
 use Rattle.answers.proofs.Answers.{both-ok, ok-when, ok-under}
-use Rattle.octets.proofs.Stands.{stands-fits, stands-left}
+use Rattle.octets.proofs.Stands.{Stands, stands-fits, stands-left}
 use Rattle.sff_format.proofs.Sizes.{length-head, length-header, length-index, layout-empty}
 use Rattle.octets.proofs.Inserts.{insert-zero, insert-right, length-insert, insert-stands, drop-stands, drop-rest}
 use Rattle.sff_format.proofs.ReadTaken.{read-taken, read-back, read-size}

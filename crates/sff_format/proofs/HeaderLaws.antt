@@ -5,7 +5,7 @@ use mathlib.Core.Bool.{false}
 use mathlib.Core.List.{List, [], _∷_, _++_}
 use native.Mathlib.Omega.{arith}
 use lib.ListN.{length, length-append}
-use Rattle.octets.specs.Parts.{part, up8, Stands}
+use Rattle.octets.specs.Parts.{part, up8}
 use Rattle.octets.specs.Numbers.{Bytes, number, fields}
 use Rattle.octets.specs.Scans.{isFlowCharacter, isZero, Every}
 use Rattle.octets.proofs.Lists.{length-part}
@@ -16,7 +16,7 @@ use Rattle.sff_format.specs.HeaderTest.{indexOffset, indexLength, readCo
 use Rattle.sff_format.specs.Valid.{Valid}
 use Rattle.answers.proofs.Answers.{first-ok, second-ok, both-ok, when-ok, ok-when, under-ok, ok-under, same-ok, ok-same, scan-ok, ok-scan}
 use Rattle.sff_format.proofs.Sizes.{length-header}
-use Rattle.octets.proofs.Stands.{Numbers, part-two, read-stands, stands-read, stands-both, stands-left, stands-right, stands-fits, filled-stands, stands-filled, length-fields, fields-stand, stand-fields}
+use Rattle.octets.proofs.Stands.{Stands, Numbers, part-two, read-stands, stands-read, stands-both, stands-left, stands-right, stands-fits, filled-stands, stands-filled, length-fields, fields-stand, stand-fields}
 
 module _ (b : List ℕ) (e : headerTest b ≡ Accepted) where
   pub fits-31 : 31 ≤ length b

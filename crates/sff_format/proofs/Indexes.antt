@@ -4,7 +4,7 @@ use mathlib.Core.Path.{_≡_}
 use mathlib.Core.List.{List, append-nil}
 use native.Mathlib.Omega.{arith}
 use lib.ListN.{length}
-use Rattle.octets.specs.Parts.{part, filled, Stands}
+use Rattle.octets.specs.Parts.{part, filled}
 use Rattle.octets.proofs.Lists.{length-part}
 use Rattle.answers.specs.declared.Answer.the-variants.{Accepted}
 use Rattle.sff_format.specs.Model.{Index, layoutIndex}
@@ -12,7 +12,7 @@ use Rattle.sff_format.specs.Rules.{indexSize}
 use Rattle.sff_format.specs.HeaderTest.{indexOffset, indexLength}
 use Rattle.sff_format.specs.FileTest.{passTest}
 use Rattle.answers.proofs.Answers.{under-ok, ok-under}
-use Rattle.octets.proofs.Stands.{stands-fits}
+use Rattle.octets.proofs.Stands.{Stands, stands-fits}
 use Rattle.sff_format.proofs.Sizes.{size-least, length-index}
 
 -- the index as a file has it

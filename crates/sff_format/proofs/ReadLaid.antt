@@ -5,7 +5,7 @@ use mathlib.Core.List.{List, [], _∷_, _++_}
 use native.Mathlib.Omega.{arith}
 use native.Mathlib.Nat.{add-zero}
 use lib.ListN.{length, length-append}
-use Rattle.octets.specs.Parts.{part, up8, Stands}
+use Rattle.octets.specs.Parts.{part, up8}
 use Rattle.octets.specs.Numbers.{Bytes, number, fields, words, wordsAt}
 use Rattle.octets.specs.Scans.{isZero, Every, isNameByte}
 use Rattle.octets.proofs.Lists.{length-part}
@@ -18,7 +18,7 @@ use Rattle.sff_format.specs.Valid.{ValidRead}
 use Rattle.answers.proofs.Answers.{first-ok, second-ok, under-ok, same-ok, scan-ok, shifted-ok}
 use Rattle.sff_format.proofs.Bases.{walk-ok, calls-ok}
 use Rattle.sff_format.proofs.Sizes.{length-head, length-data}
-use Rattle.octets.proofs.Stands.{read-stands, stands-both, filled-stands, length-fields, fields-stand, length-units, length-unitsAt, units-stand, units-small, number-small}
+use Rattle.octets.proofs.Stands.{Stands, read-stands, stands-both, filled-stands, length-fields, fields-stand, length-units, length-unitsAt, units-stand, units-small, number-small}
 
 module _ (characters b : List ℕ) (p : ℕ) where
   module _ (e : readTest characters b p ≡ Accepted) where

@@ -5,7 +5,7 @@ use mathlib.Core.List.{List, _++_}
 use native.Mathlib.Omega.{arith}
 use native.Mathlib.Nat.{add-zero}
 use lib.ListN.{length, length-append}
-use Rattle.octets.specs.Parts.{part, up8, Stands}
+use Rattle.octets.specs.Parts.{part, up8}
 use Rattle.octets.specs.Scans.{isZero, Every, isNameByte}
 use Rattle.answers.specs.declared.Answer.the-variants.{Accepted}
 use Rattle.octets.specs.Numbers.{number, fields, words, wordsAt}
@@ -17,7 +17,7 @@ use Rattle.sff_format.specs.Valid.{ValidRead}
 use Rattle.answers.proofs.Answers.{both-ok, ok-under, ok-same, ok-scan, ok-shifted}
 use Rattle.sff_format.proofs.Bases.{ok-bases}
 use Rattle.sff_format.proofs.Sizes.{length-head, length-data}
-use Rattle.octets.proofs.Stands.{Numbers, stands-read, stands-left, stands-right, stands-fits, stands-filled, length-fields, stand-fields, length-units, stand-units}
+use Rattle.octets.proofs.Stands.{Stands, Numbers, stands-read, stands-left, stands-right, stands-fits, stands-filled, length-fields, stand-fields, length-units, stand-units}
 
 module _ (characters b : List ℕ) (p : ℕ) (r : Read) (v : ValidRead characters r) (h : p ≤ length b) (s : Stands p (layoutRead r) b) where
   head-stands : Stands p (layoutReadHeader r) b

@@ -1,4 +1,4 @@
--- "Every answer has a number (0 accepted)": no refusal has the number 0. Assumes nothing.
+-- The numbers that each call may answer with; and so "Every answer has a number (0 accepted)": 0 is acceptance's alone. Assumes nothing.
 use Prim.Native.Nat.{ℕ, zero, suc}
 use mathlib.Core.Path.{_≡_, refl}
 use mathlib.Core.Bool.{Bool, true, false, cond}
@@ -7,178 +7,205 @@ use lib.ListN.{length, take}
 use lib.Dec.{ltb}
 use Rattle.answers.specs.declared.Answer.{Answer}
 use Rattle.answers.specs.declared.Answer.the-variants.{Accepted, Refused}
-use Rattle.answers.specs.Answer.{numberOf, _then_, acceptedOr}
-use Rattle.answers.proofs.Numbered.{Numbered, zero-accepted, then-numbered, when-numbered, shifted-numbered, own-numbered}
-use Rattle.sff_format.specs.HeaderTest.{fixedTest, charactersTest, headerTest, readCount, headerLength, flowCharacters}
+use Rattle.answers.specs.Answer.{numberOf, _then_, acceptedOr, among, Among}
+use Rattle.answers.proofs.Numbered.{zero-accepted, then-refusing, when-refusing, either-refusing, shifted-refusing, own-refusing, within, more-numbers}
+use Rattle.sff_format.specs.HeaderTest.{fixedTest, charactersTest, headerTest, readCount, headerLength, flows, flowCharacters}
 use Rattle.sff_format.specs.ReadTest.{nameTest, clipTest, basesTest, dataTest, readTest}
 use Rattle.sff_format.specs.FileTest.{indexHere, passTest, indexTest, endTest, boundaryTest, fileTest}
 use Rattle.sff_format.specs.Model.{Read, File}
 use Rattle.sff_format.specs.Position.{positionTest, signalTest}
 use Rattle.sff_format.specs.Writing.{newTest, newOutcome, givenTest, openTest, appendTest, appendOutcome, Left, newIn, appendTo, appendEach, writeEach}
-use Rattle.sff_format.specs.Step.{State, boundary, indexPassed, readOrNone, stepTest}
+use Rattle.sff_format.specs.View.{viewAt}
+use Rattle.sff_format.specs.Numbers.{headerNumbers, fileNumbers, stepNumbers, positionNumbers, signalNumbers, newNumbers, appendNumbers}
+use Rattle.sff_format.specs.Step.{State, boundary, indexPassed, readOrNone, stepTest, moved, concluded, stepAnswer, step}
 
 -- the tests in their order
-header-numbered : (b : List ℕ) → Numbered (headerTest b)
-unfolding headerTest fixedTest charactersTest
-header-numbered b =
-    then-numbered _ _ (when-numbered _ 1 _ refl)
+pub header-numbers : (b : List ℕ) → Among headerNumbers (headerTest b)
+unfolding headerTest fixedTest charactersTest among
+header-numbers b =
+    then-refusing _ _ _ (when-refusing _ _ 1 _ refl)
     (
-    then-numbered _ _
+    then-refusing _ _ _
     (
-    then-numbered _ _ (when-numbered _ 2 _ refl)
+    then-refusing _ _ _ (when-refusing _ _ 2 _ refl)
     (
-    then-numbered _ _ (when-numbered _ 3 _ refl)
-    (then-numbered _ _ (when-numbered _ 4 _ refl) (when-numbered _ 5 _ refl))
+    then-refusing _ _ _ (when-refusing _ _ 3 _ refl)
+    (then-refusing _ _ _ (when-refusing _ _ 4 _ refl) (when-refusing _ _ 5 _ refl))
     )
     )
     (
-    then-numbered _ _ (when-numbered _ 1 _ refl)
+    then-refusing _ _ _ (when-refusing _ _ 1 _ refl)
     (
-    then-numbered _ _ (when-numbered _ 6 _ refl)
-    (then-numbered _ _ (when-numbered _ 7 _ refl) (when-numbered _ 8 _ refl))
+    then-refusing _ _ _ (when-refusing _ _ 6 _ refl)
+    (then-refusing _ _ _ (when-refusing _ _ 7 _ refl) (when-refusing _ _ 8 _ refl))
     )
     )
-    )
-
-name-numbered : (b : List ℕ) (p s L : ℕ) → Numbered (nameTest b p s L)
-unfolding nameTest
-name-numbered b p s L =
-    then-numbered _ _ (when-numbered _ 5 _ refl)
-    (
-    then-numbered _ _ (when-numbered _ 1 _ refl)
-    (then-numbered _ _ (when-numbered _ 6 _ refl) (when-numbered _ 7 _ refl))
     )
 
-clip-numbered : (p n ql qr al ar : ℕ) → Numbered (clipTest p n ql qr al ar)
-unfolding clipTest
-clip-numbered p n ql qr al ar =
-    then-numbered _ _ (when-numbered _ 9 _ refl)
+header-in-file : (b : List ℕ) → Among fileNumbers (headerTest b)
+unfolding among
+header-in-file b = more-numbers headerNumbers fileNumbers refl (headerTest b) (header-numbers b)
+
+name-numbers : (b : List ℕ) (p s L : ℕ) → Among fileNumbers (nameTest b p s L)
+unfolding nameTest among
+name-numbers b p s L =
+    then-refusing _ _ _ (when-refusing _ _ 5 _ refl)
     (
-    then-numbered _ _ (when-numbered _ 9 _ refl)
-    (then-numbered _ _ (when-numbered _ 9 _ refl) (when-numbered _ 9 _ refl))
+    then-refusing _ _ _ (when-refusing _ _ 1 _ refl)
+    (then-refusing _ _ _ (when-refusing _ _ 6 _ refl) (when-refusing _ _ 7 _ refl))
     )
 
-data-numbered : (characters b : List ℕ) (d n : ℕ) → Numbered (dataTest characters b d n)
-unfolding dataTest basesTest
-data-numbered characters b d n =
-    then-numbered _ _ (when-numbered _ 1 _ refl)
+clip-numbers : (p n ql qr al ar : ℕ) → Among fileNumbers (clipTest p n ql qr al ar)
+unfolding clipTest among
+clip-numbers p n ql qr al ar =
+    then-refusing _ _ _ (when-refusing _ _ 9 _ refl)
     (
-    then-numbered _ _
-    (shifted-numbered _ _ (then-numbered _ _ (when-numbered _ 10 _ refl) (when-numbered _ 11 _ refl)))
-    (when-numbered _ 7 _ refl)
+    then-refusing _ _ _ (when-refusing _ _ 9 _ refl)
+    (then-refusing _ _ _ (when-refusing _ _ 9 _ refl) (when-refusing _ _ 9 _ refl))
     )
 
-read-numbered : (characters b : List ℕ) (p : ℕ) → Numbered (readTest characters b p)
-unfolding readTest
-read-numbered characters b p =
-    then-numbered _ _ (when-numbered _ 1 _ refl)
-    (then-numbered _ _ (name-numbered b p _ _) (then-numbered _ _ (clip-numbered p _ _ _ _ _) (data-numbered characters b _ _)))
+bases-numbers : (characters xs ys : List ℕ) → Among fileNumbers (basesTest characters xs ys)
+unfolding basesTest among
+bases-numbers characters xs ys = then-refusing _ _ _ (when-refusing _ _ 10 _ refl) (when-refusing _ _ 11 _ refl)
 
-index-numbered : (b : List ℕ) (p : ℕ) (q : Bool) → Numbered (indexTest b p q)
-unfolding indexTest passTest
-index-numbered b p q = go (indexHere b p q)
-  where
-    go : (t : Bool) → Numbered (cond t (passTest b p) Accepted)
-    go true = when-numbered _ 1 _ refl
-    go false = tt
+data-numbers : (characters b : List ℕ) (d n : ℕ) → Among fileNumbers (dataTest characters b d n)
+unfolding dataTest among
+data-numbers characters b d n =
+    then-refusing _ _ _ (when-refusing _ _ 1 _ refl)
+    (then-refusing _ _ _ (shifted-refusing _ _ _ (bases-numbers characters _ _)) (when-refusing _ _ 7 _ refl))
 
-end-numbered : (b : List ℕ) (p : ℕ) (q : Bool) → Numbered (endTest b p q)
-unfolding endTest
-end-numbered b p q = then-numbered _ _ (when-numbered _ 13 _ refl) (when-numbered _ 12 _ refl)
+read-numbers : (characters b : List ℕ) (p : ℕ) → Among fileNumbers (readTest characters b p)
+unfolding readTest among
+read-numbers characters b p =
+    then-refusing _ _ _ (when-refusing _ _ 1 _ refl)
+    (then-refusing _ _ _ (name-numbers b p _ _) (then-refusing _ _ _ (clip-numbers p _ _ _ _ _) (data-numbers characters b _ _)))
 
-boundary-numbered : (b : List ℕ) (n p : ℕ) (q : Bool) → Numbered (boundaryTest b n p q)
+index-numbers : (b : List ℕ) (p : ℕ) (q : Bool) → Among fileNumbers (indexTest b p q)
+unfolding indexTest passTest among
+index-numbers b p q = either-refusing _ (indexHere b p q) (passTest b p) Accepted (when-refusing _ _ 1 _ refl) tt
+
+end-numbers : (b : List ℕ) (p : ℕ) (q : Bool) → Among fileNumbers (endTest b p q)
+unfolding endTest among
+end-numbers b p q = then-refusing _ _ _ (when-refusing _ _ 13 _ refl) (when-refusing _ _ 12 _ refl)
+
+boundary-numbers : (b : List ℕ) (n p : ℕ) (q : Bool) → Among fileNumbers (boundaryTest b n p q)
 unfolding boundaryTest
-boundary-numbered b zero p q = then-numbered _ _ (index-numbered b p q) (end-numbered b _ _)
-boundary-numbered b (suc n) p q =
-    then-numbered _ _ (index-numbered b p q) (then-numbered _ _ (read-numbered (flowCharacters b) b _) (boundary-numbered b n _ _))
+boundary-numbers b zero p q = then-refusing _ _ _ (index-numbers b p q) (end-numbers b _ _)
+boundary-numbers b (suc n) p q =
+    then-refusing _ _ _ (index-numbers b p q) (then-refusing _ _ _ (read-numbers (flowCharacters b) b _) (boundary-numbers b n _ _))
 
-pub file-numbered : (b : List ℕ) → Numbered (fileTest b)
+pub file-numbers : (b : List ℕ) → Among fileNumbers (fileTest b)
 unfolding fileTest
-file-numbered b = then-numbered _ _ (header-numbered b) (boundary-numbered b (readCount b) (headerLength b) false)
+file-numbers b = then-refusing _ _ _ (header-in-file b) (boundary-numbers b (readCount b) (headerLength b) false)
 
-step-numbered : (b : List ℕ) (s : State) → Numbered (stepTest b s)
-unfolding stepTest readOrNone
-step-numbered b s =
-    then-numbered _ _ (header-numbered b)
+-- the file's numbers are among those of every call on it
+file-in : (ns : List ℕ) → within fileNumbers ns ≡ true → (a : Answer) → Among fileNumbers a → Among ns a
+file-in ns w a h = more-numbers fileNumbers ns w a h
+
+step-test-numbers : (b : List ℕ) (s : State) → Among stepNumbers (stepTest b s)
+unfolding stepTest readOrNone among
+step-test-numbers b s =
+    then-refusing _ _ _ (file-in stepNumbers refl (headerTest b) (header-in-file b))
     (
-    then-numbered _ _ (when-numbered _ 1 _ refl)
-    (then-numbered _ _ (index-numbered b (s .place) (s .passed-index)) (go (ltb (s .passed-reads) (readCount b))))
+    then-refusing _ _ _ (when-refusing _ _ 1 _ refl)
+    (
+    then-refusing _ _ _ (file-in stepNumbers refl (indexTest b (s .place) (s .passed-index)) (index-numbers b (s .place) (s .passed-index)))
+    (
+    either-refusing _ (ltb (s .passed-reads) (readCount b))
+    (readTest (flowCharacters b) b (boundary b s))
+    (endTest b (boundary b s) (indexPassed b s) then Refused 33 (boundary b s))
+    (file-in stepNumbers refl (readTest (flowCharacters b) b (boundary b s)) (read-numbers (flowCharacters b) b (boundary b s)))
+    (
+    then-refusing _ (endTest b (boundary b s) (indexPassed b s)) (Refused 33 (boundary b s))
+    (file-in stepNumbers refl (endTest b (boundary b s) (indexPassed b s)) (end-numbers b (boundary b s) (indexPassed b s)))
+    refl
     )
+    )
+    )
+    )
+
+-- a step's number and place are its test's
+step-answered : (b : List ℕ) (s : State) → stepAnswer (step b s) ≡ stepTest b s
+unfolding step concluded
+step-answered b s = go (stepTest b s)
   where
-    go : (t : Bool) → Numbered (cond t (readTest (flowCharacters b) b (boundary b s)) (endTest b (boundary b s) (indexPassed b s) then Refused 33 (boundary b s)))
-    go true = read-numbered (flowCharacters b) b (boundary b s)
-    go false = then-numbered (endTest b (boundary b s) (indexPassed b s)) (Refused 33 (boundary b s)) (end-numbered b (boundary b s) (indexPassed b s)) refl
+    go : (a : Answer) → stepAnswer (concluded a (viewAt (flows b) b (boundary b s)) (moved b s) s) ≡ a
+    go Accepted = refl
+    go (Refused n p) = refl
 
--- the number 0 is the whole-file test's, and a step's, for accepted alone
+pub step-numbers : (b : List ℕ) (s : State) → Among stepNumbers (stepAnswer (step b s))
+step-numbers b s = rw (step-answered b s) (step-test-numbers b s)
+
+pub position-numbers : (b : List ℕ) (i : ℕ) → Among positionNumbers (positionTest b i)
+unfolding positionTest among
+position-numbers b i = then-refusing _ _ _ (file-in positionNumbers refl (fileTest b) (file-numbers b)) (when-refusing _ _ 21 _ refl)
+
+pub signal-numbers : (b : List ℕ) (i : ℕ) → Among signalNumbers (signalTest b i)
+unfolding signalTest among
+signal-numbers b i = then-refusing _ _ _ (more-numbers positionNumbers signalNumbers refl (positionTest b i) (position-numbers b i)) (when-refusing _ _ 32 _ refl)
+
+pub new-numbers : (room : ℕ) (characters key : List ℕ) → Among newNumbers (newTest room characters key)
+unfolding newTest among
+new-numbers room characters key = then-refusing _ _ _ (when-refusing _ _ 5 _ refl) (then-refusing _ _ _ (when-refusing _ _ 6 _ refl) (when-refusing _ _ 26 _ refl))
+
+given-numbers : (characters : List ℕ) (r : Read) → Among appendNumbers (givenTest characters r)
+unfolding givenTest among
+given-numbers characters r =
+    let n = length (r .bases) in
+    let ql = r .quality-left in
+    let qr = r .quality-right in
+    let al = r .adapter-left in
+    let ar = r .adapter-right in
+    then-refusing _ _ _ (when-refusing _ _ 30 _ refl)
+    (
+    then-refusing _ _ _ (when-refusing _ _ 5 _ refl)
+    (
+    then-refusing _ _ _ (when-refusing _ _ 6 _ refl)
+    (
+    then-refusing _ _ _ (own-refusing _ _ (file-in appendNumbers refl (clipTest 0 n ql qr al ar) (clip-numbers 0 n ql qr al ar)))
+    (own-refusing _ _ (file-in appendNumbers refl (basesTest characters (r .increments) (r .bases)) (bases-numbers characters (r .increments) (r .bases))))
+    )
+    )
+    )
+
+pub append-numbers : (buffer : List ℕ) (len : ℕ) (r : Read) → Among appendNumbers (appendTest buffer len r)
+unfolding appendTest openTest among
+append-numbers buffer len r =
+    then-refusing _ _ _ (when-refusing _ _ 14 _ refl)
+    (
+    then-refusing _ _ _
+    (then-refusing _ _ _ (file-in appendNumbers refl (fileTest (take len buffer)) (file-numbers (take len buffer))) (then-refusing _ _ _ (when-refusing _ _ 25 _ refl) (when-refusing _ _ 31 _ refl)))
+    (then-refusing _ _ _ (given-numbers (flowCharacters (take len buffer)) r) (when-refusing _ _ 26 _ refl))
+    )
+
+-- "Every answer has a number (0 accepted)": 0 is in none of these lists
 pub file-zero : (b : List ℕ) → numberOf (fileTest b) ≡ 0 → fileTest b ≡ Accepted
-file-zero b e = zero-accepted (fileTest b) (file-numbered b) e
-
-pub step-zero : (b : List ℕ) (s : State) → numberOf (stepTest b s) ≡ 0 → stepTest b s ≡ Accepted
-step-zero b s e = zero-accepted (stepTest b s) (step-numbered b s) e
-
--- nor of a position's, a summary's or a writer's
-position-numbered : (b : List ℕ) (i : ℕ) → Numbered (positionTest b i)
-unfolding positionTest
-position-numbered b i = then-numbered _ _ (file-numbered b) (when-numbered _ 21 _ refl)
-
-pub position-zero : (b : List ℕ) (i : ℕ) → numberOf (positionTest b i) ≡ 0 → positionTest b i ≡ Accepted
-position-zero b i e = zero-accepted (positionTest b i) (position-numbered b i) e
-
-pub signal-zero : (b : List ℕ) (i : ℕ) → numberOf (signalTest b i) ≡ 0 → signalTest b i ≡ Accepted
-unfolding signalTest
-signal-zero b i e = zero-accepted (signalTest b i) (then-numbered _ _ (position-numbered b i) (when-numbered _ 32 _ refl)) e
-
-new-numbered : (room : ℕ) (characters key : List ℕ) → Numbered (newTest room characters key)
-unfolding newTest
-new-numbered room characters key = then-numbered _ _ (when-numbered _ 5 _ refl) (then-numbered _ _ (when-numbered _ 6 _ refl) (when-numbered _ 26 _ refl))
-
-pub new-zero : (room : ℕ) (characters key : List ℕ) → numberOf (newTest room characters key) ≡ 0 → newTest room characters key ≡ Accepted
-new-zero room characters key e = zero-accepted (newTest room characters key) (new-numbered room characters key) e
-
-given-numbered : (characters : List ℕ) (r : Read) → Numbered (givenTest characters r)
-unfolding givenTest basesTest
-given-numbered characters r =
-    then-numbered _ _ (when-numbered _ 30 _ refl)
-    (
-    then-numbered _ _ (when-numbered _ 5 _ refl)
-    (
-    then-numbered _ _ (when-numbered _ 6 _ refl)
-    (
-    then-numbered _ _ (own-numbered _ (clip-numbered 0 _ _ _ _ _))
-    (own-numbered _ (then-numbered _ _ (when-numbered _ 10 _ refl) (when-numbered _ 11 _ refl)))
-    )
-    )
-    )
-
-append-numbered : (buffer : List ℕ) (len : ℕ) (r : Read) → Numbered (appendTest buffer len r)
-unfolding appendTest openTest
-append-numbered buffer len r =
-    then-numbered _ _ (when-numbered _ 14 _ refl)
-    (
-    then-numbered _ _ (then-numbered _ _ (file-numbered (take len buffer)) (then-numbered _ _ (when-numbered _ 25 _ refl) (when-numbered _ 31 _ refl)))
-    (then-numbered _ _ (given-numbered (flowCharacters (take len buffer)) r) (when-numbered _ 26 _ refl))
-    )
+unfolding among
+file-zero b e = zero-accepted fileNumbers refl (fileTest b) (file-numbers b) e
 
 pub append-zero : (buffer : List ℕ) (len : ℕ) (r : Read) → numberOf (appendTest buffer len r) ≡ 0 → appendTest buffer len r ≡ Accepted
-append-zero buffer len r e = zero-accepted (appendTest buffer len r) (append-numbered buffer len r) e
+unfolding among
+append-zero buffer len r e = zero-accepted appendNumbers refl (appendTest buffer len r) (append-numbers buffer len r) e
 
--- nor of a file that is written
-append-outcome : (w : Left) (r : Read) → Numbered (appendTo w r .outcome .answer)
-unfolding appendOutcome
-append-outcome w r = append-numbered (w .buffer) (w .outcome .length) r
-
-either-numbered : (a : Answer) (v w : Left) → Numbered (v .outcome .answer) → Numbered (w .outcome .answer) → Numbered (acceptedOr a v w .outcome .answer)
+-- nor is it a refusal's of a file that is written
+either-numbers : (a : Answer) (v w : Left) → Among appendNumbers (v .outcome .answer) → Among appendNumbers (w .outcome .answer) → Among appendNumbers (acceptedOr a v w .outcome .answer)
 unfolding acceptedOr
-either-numbered Accepted v w h k = h
-either-numbered (Refused n p) v w h k = k
+either-numbers Accepted v w h k = h
+either-numbers (Refused n p) v w h k = k
 
-each-numbered : (w : Left) (rs : List Read) → Numbered (w .outcome .answer) → Numbered (appendEach w rs .outcome .answer)
-unfolding appendEach
-each-numbered w [] h = h
-each-numbered w (r ∷ rs) h = either-numbered (w .outcome .answer) (appendEach (appendTo w r) rs) w (each-numbered (appendTo w r) rs (append-outcome w r)) h
+each-numbers : (w : Left) (rs : List Read) → Among appendNumbers (w .outcome .answer) → Among appendNumbers (appendEach w rs .outcome .answer)
+unfolding appendEach appendOutcome
+each-numbers w [] h = h
+each-numbers w (r ∷ rs) h =
+    either-numbers (w .outcome .answer) (appendEach (appendTo w r) rs) w
+    (each-numbers (appendTo w r) rs (append-numbers (w .buffer) (w .outcome .length) r)) h
 
 pub written-zero : (buffer : List ℕ) (f : File) → numberOf (writeEach buffer f .outcome .answer) ≡ 0 → writeEach buffer f .outcome .answer ≡ Accepted
-unfolding writeEach newOutcome
+unfolding writeEach newOutcome among
 written-zero buffer f e =
-    zero-accepted (writeEach buffer f .outcome .answer)
-    (each-numbered (newIn buffer (f .flow-characters) (f .key)) (f .reads) (new-numbered (length buffer) (f .flow-characters) (f .key))) e
+    zero-accepted appendNumbers refl (writeEach buffer f .outcome .answer)
+    (
+    each-numbers (newIn buffer (f .flow-characters) (f .key)) (f .reads)
+    (more-numbers newNumbers appendNumbers refl (newTest (length buffer) (f .flow-characters) (f .key)) (new-numbers (length buffer) (f .flow-characters) (f .key)))
+    )
+    e

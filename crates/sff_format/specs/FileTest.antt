@@ -38,7 +38,7 @@ endTest b p passed =
     when (declared (indexOffset b) (indexLength b) && not passed) 13 8
     then when (ltb p (length b)) 12 p
 
--- "At each boundary", with n reads that remain
+-- "At each boundary: an index declared there and not yet passed is passed ..; else, if reads remain, a read is tested; else the end", with n reads that remain
 unfoldable pub boundaryTest : List ℕ → ℕ → ℕ → Bool → Answer
 boundaryTest b zero p passed = indexTest b p passed then endTest b (pastIndex b p passed) (nowPassed b p passed)
 boundaryTest b (suc n) p passed =
@@ -46,5 +46,6 @@ boundaryTest b (suc n) p passed =
     let more = boundaryTest b n (readEnd (flows b) b at) (nowPassed b p passed) in
     indexTest b p passed then readTest (flowCharacters b) b at then more
 
+-- "Order of the file's tests": the header's, and the boundary at its end, with as many reads as the count says
 unfoldable pub fileTest : List ℕ → Answer
 fileTest b = headerTest b then boundaryTest b (readCount b) (headerLength b) false

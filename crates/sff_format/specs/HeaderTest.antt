@@ -11,6 +11,7 @@ use Rattle.answers.specs.declared.Answer.{Answer}
 use Rattle.answers.specs.Answer.{when, stopped, _then_}
 use Rattle.sff_format.specs.Rules.{badIndex}
 
+-- "index offset at 8 (8 bytes), index length at 16 (4), reads at 20 (4), header length at 24 (2), key length K at 26 (2), flows F at 28 (2)"
 abbrev pub indexOffset : List ℕ → ℕ
 indexOffset b = number 8 8 b
 
@@ -33,13 +34,14 @@ flows b = number 2 28 b
 abbrev pub charactersEnd : List ℕ → ℕ
 charactersEnd b = 31 + flows b + keyLength b
 
+-- "F flow characters, K key characters"
 abbrev pub flowCharacters : List ℕ → List ℕ
 flowCharacters b = part 31 (flows b) b
 
 abbrev pub keyCharacters : List ℕ → List ℕ
 keyCharacters b = part (31 + flows b) (keyLength b) b
 
--- 2, 3, 4, 5
+-- 2, 3, 4, 5, with the places of the table: "0 / 4 / 30" and 24
 unfoldable pub fixedTest : List ℕ → Answer
 fixedTest b =
     when (not (eqb (number 4 0 b) 0x2E736666)) 2 0

@@ -1,4 +1,4 @@
--- In document 01's order: the rules; the model of a file and its layout; what a file may say; the tests; what an accepted file says; places; the insert; a read in numbers; reading on; a read by its position; writing.
+-- In document 01's order: the rules; the model of a file and its layout; what a file may say; the tests; what an accepted file says; places; the insert; a read in numbers; reading on; a read by its position; writing; the numbers that each call may answer with.
 pub mod Rules
 pub mod Model
 pub mod Valid
@@ -12,3 +12,4 @@ pub mod View
 pub mod Step
 pub mod Position
 pub mod Writing
+pub mod Numbers

@@ -6,6 +6,7 @@ use Rattle.octets.specs.Parts.{up8, filled, padded, insertAt}
 use Rattle.octets.specs.Numbers.{fields, words}
 use Rattle.sff_format.specs.Rules.{indexSize}
 
+-- a read, as its two sections hold it: its name; the four clips; "flow values"; "flow index bytes", which "are increments"; "bases"; "qualities"
 pub record Read : Type 0 where
   pub name : List ℕ
   pub quality-left : ℕ
@@ -17,10 +18,12 @@ pub record Read : Type 0 where
   pub bases : List ℕ
   pub qualities : List ℕ
 
+-- an index: "Otherwise its bytes, of any content, stand where the offset says"
 pub record Index : Type 0 where
   pub offset : ℕ
   pub bytes : List ℕ
 
+-- a file: "F flow characters, K key characters", an index or none, and the reads in order
 pub record File : Type 0 where
   pub flow-characters : List ℕ
   pub key : List ℕ
@@ -56,6 +59,7 @@ layoutReadHeader r = padded (fields (readFields r) ++ r .name)
 unfoldable pub layoutReadData : Read → List ℕ
 layoutReadData r = padded (words (r .values) ++ r .increments ++ r .bases ++ r .qualities)
 
+-- both sections of a read; and of reads, one behind the other
 unfoldable pub layoutRead : Read → List ℕ
 layoutRead r = layoutReadHeader r ++ layoutReadData r
 

@@ -33,6 +33,7 @@ parseReads b (suc n) p passed =
     let at = pastIndex b p passed in
     parseRead (flows b) b at ∷ parseReads b n (readEnd (flows b) b at) (nowPassed b p passed)
 
+-- header, index and reads
 unfoldable pub parse : List ℕ → File
 parse b = record {
   flow-characters = flowCharacters b;

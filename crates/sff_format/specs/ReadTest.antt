@@ -11,15 +11,13 @@ use Rattle.answers.specs.declared.Answer.{Answer}
 use Rattle.answers.specs.Answer.{when, stopped, shifted, _then_}
 use Rattle.sff_format.specs.Rules.{leftLimit, rightLimit, walkRun, callRun}
 
--- the length of its header section
+-- "its length (2), name length L (2), bases N (4), quality left, quality right, adapter left, adapter right (2 each, in that order)"
 abbrev pub sectionLength : List ℕ → ℕ → ℕ
 sectionLength b p = number 2 p b
 
--- L
 abbrev pub nameLength : List ℕ → ℕ → ℕ
 nameLength b p = number 2 (p + 2) b
 
--- N
 abbrev pub baseCount : List ℕ → ℕ → ℕ
 baseCount b p = number 4 (p + 4) b
 

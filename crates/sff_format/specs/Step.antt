@@ -64,6 +64,11 @@ unfoldable pub concluded : Answer → ReadView → State → State → Step
 concluded Accepted view next s = found view next
 concluded (Refused n p) view next s = stop n p s
 
+-- document 01's number and place of each case: a read that is found is accepted
+abbrev pub stepAnswer : Step → Answer
+stepAnswer (found view next) = Accepted
+stepAnswer (stop n p s) = Refused n p
+
 unfoldable pub step : List ℕ → State → Step
 step b s = concluded (stepTest b s) (viewAt (flows b) b (boundary b s)) (moved b s) s
 

@@ -29,7 +29,7 @@ use Rattle.sff_correction.specs.Record.{kind, position, oldLength, newLength, o
 use Rattle.sff_correction.specs.Edit.{target, edited}
 use Rattle.sff_correction.specs.Reasons.{clipsAbove, others, bears, reasons}
 use Rattle.sff_correction.proofs.Records.{record-96, old-most, new-most, new-size}
-use Rattle.sff_correction.proofs.NoReasons.{bears-append}
+use Rattle.sff_correction.proofs.InOrder.{bears-append}
 use Rattle.sff_correction.proofs.EditedSizes.{clips-size, name-size, none-size}
 use Rattle.sff_reasons.specs.Found.{Found, Plain}
 use Rattle.sff_reasons.proofs.Names.{name-inside}

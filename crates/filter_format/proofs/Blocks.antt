@@ -75,10 +75,6 @@ none-lacking w s e = let h = ltb-false 0 (lacking w 0 s) e in omega arith
 
 -- how long the data are with their filter undone
 module _ (level : ℕ) (follow s : List ℕ) where
-  pub decoded-raw : decoded Raw level follow s ≡ s
-  unfolding decoded
-  decoded-raw = refl
-
   pub length-raw : length (decoded Raw level follow s) ≡ length s
   unfolding decoded
   length-raw = refl

@@ -9,7 +9,7 @@ use Rattle.answers.specs.Answer.{numberOf, acceptedOr, among, Among}
 use Rattle.answers.proofs.Numbered.{zero-accepted, then-refusing, when-refusing, more-numbers}
 use Rattle.filter_format.specs.declared.Filter.{Filter}
 use Rattle.filter_format.specs.Block.{filterAt, isRaw, undone, contentsTest}
-use Rattle.filter_format.specs.Undo.{Result, making, refusing, tested, blockTest, layerTest, undoFrom, mostFilters, undo, undoLayer}
+use Rattle.filter_format.specs.Undo.{Result, making, refusing, blockTest, layerTest, undoFrom, mostFilters, undo, undoLayer}
 use Rattle.filter_format.specs.Encode.{encodeTest, encoded, encode}
 use Rattle.filter_format.specs.Delta.{deltaBytes, undeltaBytes}
 use Rattle.filter_format.specs.Samples.{samplesTest, encodeSamples, undoSamples}

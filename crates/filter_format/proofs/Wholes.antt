@@ -3,7 +3,7 @@ use mathlib.Core.Path.{_≡_, sym, ap, _∙_}
 use mathlib.Core.Bool.{false}
 use mathlib.Core.List.{List}
 use Prim.Native.Nat.{ℕ, zero, _*_, _/_, _%_, _<_}
-use native.Mathlib.Nat.{one-le-pow, div-add-mod, mul-div-right, mul-mod-right}
+use native.Mathlib.Nat.{one-le-pow, div-add-mod, mul-div-right}
 use native.Mathlib.Omega.{arith}
 use borrow.Author.Tests.{eqb-true, not-false}
 use lib.ListN.{length, take}
@@ -40,6 +40,3 @@ module _ (w : ℕ) (us : List ℕ) (positive : 0 < w) where
   pub units-of-bytes : Below (range w) us → unitsOf w (unitBytes w us) ≡ us
   units-of-bytes h =
       ap (λ (k : ℕ). unitsAt w k 0 (unitBytes w us)) count ∙ stand-units w (unitBytes w us) us 0 (omega arith) h (stands-self (unitBytes w us))
-
-  pub whole-bytes : length (unitBytes w us) % w ≡ 0
-  whole-bytes = ap (λ (k : ℕ). k % w) (length-units w us) ∙ mul-mod-right w (length us)

@@ -1,24 +1,23 @@
 -- A listing has at most seven bytes for each byte of an accepted file, and a refusal has a short line. Assumes nothing.
 use Prim.Native.Nat.{ℕ, suc, _+_, _-_, _*_, _/_, _≤_, _<_}
-use mathlib.Core.Path.{_≡_, refl, sym, ap, _∙_}
+use mathlib.Core.Path.{_≡_, refl, ap}
 use mathlib.Core.Bool.{Bool, true, false, not}
-use mathlib.Core.List.{List, [], _∷_, _++_}
+use mathlib.Core.List.{List, [], _∷_}
 use native.Mathlib.Omega.{arith}
 use lib.Dec.{ltb, leb}
 use borrow.Author.Tests.{ltb-true, ltb-false, lt-ltb, le-leb, lt-leb}
-use lib.ListN.{length, take, drop, length-append, length-take, length-drop}
-use Rattle.octets.specs.Parts.{part, up8, insertAt}
+use lib.ListN.{length, length-append, length-take, length-drop}
+use Rattle.octets.specs.Parts.{insertAt}
 use Rattle.octets.specs.Numbers.{Bytes}
 use Rattle.answers.specs.declared.Answer.{Answer}
 use Rattle.answers.specs.declared.Answer.the-variants.{Accepted, Refused}
-use Rattle.sff_format.specs.Model.{Read, File, layoutReadHeader, layoutReadData, layoutRead, layoutReads, layoutHeader, layoutIndex, layout}
+use Rattle.sff_format.specs.Model.{Read, File, layoutRead, layoutReads, layoutHeader, layout}
 use Rattle.sff_format.specs.FileTest.{fileTest}
 use Rattle.sff_format.specs.Parse.{parse}
 use Rattle.sff_format.specs.Insert.{insertFirst, insertLast, insertOf}
 use Rattle.sff_format.proofs.Sizes.{length-header, length-head, length-data}
 use Rattle.sff_format.proofs.FileLaid.{file-laid}
 use Rattle.sff_format.proofs.Inserted.{length-insert}
-use Rattle.lines.specs.Lines.{headerLine, readLine, refusalLine}
 use Rattle.lines.proofs.Lengths.{header-line-short, read-line-short, refusal-line-short}
 use Rattle.listing.specs.Listing.{lineOf, linesFrom, fileLines, listed, listing, enough}
 

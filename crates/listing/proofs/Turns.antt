@@ -1,20 +1,19 @@
 -- The loop over an accepted file's reads that puts their lines. Assumes nothing.
-use Prim.Native.Nat.{ℕ, zero, suc, _+_, _-_, _*_, _≤_, _<_}
-use mathlib.Core.Path.{_≡_, refl, sym, ap, _∙_}
-use mathlib.Core.Bool.{Bool, true, false}
-use mathlib.Core.List.{List, [], _∷_, _++_}
+use Prim.Native.Nat.{ℕ, suc, _+_, _≤_}
+use mathlib.Core.Path.{_≡_}
+use mathlib.Core.Bool.{Bool, false}
+use mathlib.Core.List.{List, _++_}
 use native.Mathlib.Numerals.{add-one}
 use native.Mathlib.Omega.{arith}
 use lib.ListN.{length}
 use Rattle.octets.specs.Numbers.{Bytes}
 use Rattle.answers.specs.declared.Answer.the-variants.{Accepted}
 use Rattle.sff_format.specs.declared.ReadView.{ReadView}
-use Rattle.sff_format.specs.Model.{Read}
 use Rattle.sff_format.specs.HeaderTest.{readCount, headerLength, flows, flowCharacters, headerTest}
 use Rattle.sff_format.specs.ReadTest.{readTest, readEnd}
 use Rattle.sff_format.specs.FileTest.{indexTest, pastIndex, nowPassed, boundaryTest, fileTest}
 use Rattle.sff_format.specs.Parse.{parseRead, parseReads, parse}
-use Rattle.sff_format.specs.View.{viewAt, bytesIn, viewFirst, viewLast, insertIn}
+use Rattle.sff_format.specs.View.{viewAt}
 use Rattle.sff_format.proofs.HeaderLaws.{header-fits, characters-length}
 use Rattle.sff_format.proofs.Boundaries.{accepted-read}
 use Rattle.sff_format.proofs.FileLaid.{head-ok, sections-ok}
@@ -25,7 +24,6 @@ use Rattle.sff_format.proofs.Steps.{read-fits}
 use Rattle.text.specs.Writing.{Room}
 use Rattle.text.proofs.Writing.{Wrote}
 use Rattle.text.proofs.Coming.{Coming, coming-start, coming-room, coming-put, coming-done}
-use Rattle.lines.specs.Lines.{readLine}
 use Rattle.listing.specs.Listing.{lineOf, linesFrom, viewLine}
 
 -- the line of a view is the line of the read that it is of

@@ -9,7 +9,7 @@ use lib.ListN.{length, getD, set}
 use native.Mathlib.Numerals.{add-one, add-two, add-three}
 use lib.Pow.{pow-add}
 use lib.Seq.{take-add, drop-drop}
-use Rattle.octets.proofs.Lists.{part-suc, length-part, put-sets, put-put, part-put}
+use Rattle.octets.proofs.Lists.{part-suc, length-part, put-sets, put-put}
 use Rattle.octets.proofs.AllBytes.{bytes-part}
 use Rattle.octets.specs.Numbers.{bigEndianFrom, bigEndian, number, bytesOf, Bytes}
 use Rattle.octets.specs.Parts.{part, putAt}
@@ -114,11 +114,6 @@ put-halves j k at v l h =
     let ys : List ℕ = bytesOf k (v % 256 ^ k) in
     let len : length xs ≡ j = length-bytesOf j (v / 256 ^ k) in
     rw (bytesOf-split, ← put-put at xs ys l (rw len h), len)
-
--- what was put is read back
-pub get-put : (k at v : ℕ) (l : List ℕ) → v < 256 ^ k → at + k ≤ length l → number k at (putAt at (bytesOf k v) l) ≡ v
-unfolding number
-get-put k at v l h g = rw (part-put at k (bytesOf k v) l (length-bytesOf k v) g) (bigEndian-fits k v h)
 
 -- what is read and put is copied
 pub put-get : (k at from : ℕ) (l s : List ℕ) → from + k ≤ length s → Bytes s → putAt at (bytesOf k (number k from s)) l ≡ putAt at (part from k s) l

@@ -1,21 +1,20 @@
 -- The loop over the boundaries: what is still to be asked decides. Assumes nothing.
-use Prim.Native.Nat.{ℕ, zero, suc, _+_, _-_, _*_, _≤_, _<_}
+use Prim.Native.Nat.{ℕ, suc, _+_, _-_, _≤_, _<_}
 use mathlib.Core.Path.{_≡_, refl, sym, ap, _∙_}
-use mathlib.Core.Bool.{Bool, true, false, cond}
+use mathlib.Core.Bool.{Bool, true, false}
 use mathlib.Core.List.{List}
 use native.Mathlib.Omega.{arith}
 use lib.ListN.{length}
-use Rattle.octets.specs.Parts.{part, up8}
+use Rattle.octets.specs.Parts.{part}
 use Rattle.answers.specs.declared.Answer.{Answer}
 use Rattle.answers.specs.declared.Answer.the-variants.{Accepted, Refused}
 use Rattle.answers.specs.Answer.{_then_}
 use Rattle.sff_format.specs.Rules.{indexSize}
-use Rattle.sff_format.specs.HeaderTest.{indexLength, readCount, headerLength, keyLength, flows, charactersEnd, flowCharacters, headerTest}
+use Rattle.sff_format.specs.HeaderTest.{indexLength, flows, flowCharacters, headerTest}
 use Rattle.sff_format.specs.ReadTest.{readTest, readEnd}
 use Rattle.sff_format.specs.FileTest.{indexDue, indexHere, passTest, endTest, boundaryTest}
 use Rattle.sff_format.proofs.HeaderLaws.{header-fits, header-sized}
 use Rattle.sff_format.proofs.Boundaries.{boundary-end, boundary-read, boundary-index}
-use Rattle.sff_format.proofs.Indexes.{pass-fits}
 use Rattle.sff_format.proofs.Steps.{read-fits}
 use Rattle.sff_header.specs.declared.Header.{Header}
 use Rattle.sff_header.specs.Header.{headerOf}

@@ -16,14 +16,13 @@ use Rattle.sff_format.specs.Model.{noIndex}
 use Rattle.sff_format.specs.Valid.{Valid}
 use Rattle.sff_format.specs.Writing.{writeEach}
 use Rattle.sff_format.proofs.Writers.{write-each}
-use Rattle.sff_format.specs.FileTest.{fileTest}
 use Rattle.sff_format.specs.Parse.{parse}
 use Rattle.sff_correction.specs.Edit.{edited}
 use Rattle.sff_correction.specs.InOrder.{reasonsAgainst}
 use Rattle.sff_correction.specs.Numbers.{correctNumbers}
 use Rattle.sff_correction.specs.Correct.{correctTest, corrected, correctOutcome, over, correctBuffer}
 use Rattle.sff_correction.proofs.InOrder.{correct-judged, correct-numbers, correct-zero}
-use Rattle.sff_correction.proofs.Carried.{refused-outcome, refused-buffer, done-outcome, done-buffer, done-valid, done-accepted, done-front}
+use Rattle.sff_correction.proofs.Carried.{refused-outcome, refused-buffer, done-outcome, done-buffer, done-valid, done-front}
 
 module _ (buffer : List ℕ) (len : ℕ) (r : List ℕ) where
   -- the answer is that of the tests in order
@@ -60,9 +59,6 @@ module _ (buffer : List ℕ) (len : ℕ) (r : List ℕ) where
 
       pub carried-valid : Valid (edited r (parse (take len buffer)))
       carried-valid = done-valid buffer len r (outcome-zero e) (bytes-take len buffer y) z
-
-      pub carried-accepted : fileTest (take (correctOutcome buffer len r .length) (correctBuffer buffer len r)) ≡ Accepted
-      carried-accepted = rw (carried-left .0, carried-left .1) (done-accepted buffer len r (outcome-zero e) (bytes-take len buffer y) z)
 
       -- the writers leave the same bytes
       pub corrected-written : parse (take len buffer) .index ≡ noIndex → (other : List ℕ) → length (corrected buffer len r) ≤ length other

@@ -8,7 +8,6 @@ use native.Mathlib.Omega.{arith}
 use lib.ListN.{length, take, length-append}
 use lib.Seq.{length-take-le, take-at}
 use borrow.Author.Tests.{ltb-true, not-false}
-use Rattle.octets.specs.Parts.{same}
 use Rattle.octets.specs.Numbers.{Bytes}
 use Rattle.answers.specs.declared.Answer.{Answer}
 use Rattle.answers.specs.declared.Answer.the-variants.{Accepted, Refused}
@@ -21,9 +20,9 @@ use Rattle.sff_format.specs.Places.{replaced, place}
 use Rattle.answers.proofs.Answers.{first-ok, second-ok, when-ok, under-ok}
 use Rattle.sff_format.proofs.Sizes.{length-head, length-header}
 use Rattle.sff_format.proofs.Keeps.{no-index, valid-at, valid-changed, valid-gone}
-use Rattle.sff_correction.specs.Record.{position, newQualityLeft, newQualityRight, newAdapterLeft, newAdapterRight, oldName, newName, isClips, isRename, recordTest}
+use Rattle.sff_correction.specs.Record.{position, newQualityLeft, newQualityRight, newAdapterLeft, newAdapterRight, isClips, isRename, recordTest}
 use Rattle.sff_correction.specs.Edit.{clipped, renamed, instead, target, edited}
-use Rattle.sff_correction.specs.Reasons.{clipsAbove, others, bears, reasons}
+use Rattle.sff_correction.specs.Reasons.{clipsAbove, reasons}
 use Rattle.sff_correction.proofs.Records.{new-most, new-good, new-size, new-clips-fit}
 
 -- what comes in the place of a read, by the kind
@@ -65,10 +64,6 @@ module _ (room : ℕ) (r : List ℕ) (f : File) (e : reasons room r f ≡ Accept
   unfolding reasons
   reasons-position = ltb-true _ _ (not-false _ (when-ok _ _ _ (first-ok _ _ e)))
 
-  pub reasons-name : same (oldName r) (target r f .name) ≡ true
-  unfolding reasons
-  reasons-name = not-false _ (when-ok _ _ _ (first-ok _ _ (second-ok _ _ e)))
-
   pub reasons-index : isClips r ≡ false → f .index ≡ noIndex
   unfolding reasons
   reasons-index k = no-index f (go (when-ok _ _ _ (first-ok _ _ (second-ok _ _ (second-ok _ _ e)))))
@@ -81,13 +76,6 @@ module _ (room : ℕ) (r : List ℕ) (f : File) (e : reasons room r f ≡ Accept
   reasons-clips k = go (when-ok _ _ _ (first-ok _ _ (second-ok _ _ (second-ok _ _ (second-ok _ _ e)))))
     where
       go : (isClips r && clipsAbove (length (target r f .bases)) r) ≡ false → clipsAbove (length (target r f .bases)) r ≡ false
-      go d = rw k at d
-
-  pub reasons-names : isRename r ≡ true → bears (newName r) (others r f) ≡ false
-  unfolding reasons
-  reasons-names k = go (when-ok _ _ _ (first-ok _ _ (second-ok _ _ (second-ok _ _ (second-ok _ _ (second-ok _ _ e))))))
-    where
-      go : (isRename r && bears (newName r) (others r f)) ≡ false → bears (newName r) (others r f) ≡ false
       go d = rw k at d
 
   pub reasons-room : length (layout (edited r f)) ≤ room

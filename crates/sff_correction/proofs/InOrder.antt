@@ -1,7 +1,7 @@
 -- A correction is answered for the first reason that holds in document 01's order; and with one of its numbers. Assumes nothing.
 use Prim.Native.Nat.{ℕ, zero, suc, _+_, _-_, _≤_, _<_}
 use mathlib.Core.Path.{_≡_, refl, sym, ap, _∙_}
-use mathlib.Core.Bool.{Bool, true, false, cond, not, _&&_, _||_}
+use mathlib.Core.Bool.{Bool, true, false, not, _&&_, _||_}
 use mathlib.Core.List.{List, [], _∷_, _++_, append-nil}
 use native.Mathlib.Omega.{arith}
 use borrow.Author.Tests.{not-true, not-false, ltb-true, ltb-false}
@@ -15,25 +15,23 @@ use Rattle.octets.proofs.AllBytes.{bytes-take}
 use Rattle.answers.specs.declared.Answer.{Answer}
 use Rattle.answers.specs.declared.Answer.the-variants.{Accepted, Refused}
 use Rattle.answers.specs.Answer.{numberOf, acceptedOr, _then_, Refusing, among, Among}
-use Rattle.answers.specs.Reasons.{Reason}
 use Rattle.answers.proofs.Answers.{not-accepted, first-ok, second-ok, both-ok, under-ok, ok-under, when-ok, or-left, or-right}
 use Rattle.answers.proofs.Numbered.{zero-accepted, then-refusing, when-refusing, either-refusing, more-numbers}
 use Rattle.answers.proofs.Reasons.{Tests, when-tests, Judged, chain-judged, last-judged}
 use Rattle.sff_format.specs.Model.{Read, File, noIndex, layout}
-use Rattle.sff_format.specs.Rules.{declared}
 use Rattle.sff_format.specs.ReadTest.{clipTest}
 use Rattle.sff_format.specs.Valid.{IsFile}
 use Rattle.sff_format.specs.FileTest.{fileTest}
 use Rattle.sff_format.specs.Parse.{parse}
-use Rattle.sff_format.specs.Places.{noRead, readAt, replaced}
+use Rattle.sff_format.specs.Places.{noRead, replaced}
 use Rattle.sff_format.specs.Numbers.{fileNumbers}
 use Rattle.sff_format.proofs.Keeps.{none-declared, no-index}
 use Rattle.sff_format.proofs.Format.{accepted}
 use Rattle.sff_format.proofs.Refusals.{file-numbers}
 use Rattle.sff_correction.specs.Record.{position, oldLength, newLength, newQualityLeft, newQualityRight, newAdapterLeft, newAdapterRight, oldName, newName, isClips, isRename, nameFieldTest, unusedTest, newClipsTest, newNameTest, recordTest}
 use Rattle.sff_correction.specs.Edit.{target, edited}
-use Rattle.sff_correction.specs.Reasons.{clipsAbove, others, bears, reasons}
-use Rattle.sff_correction.specs.InOrder.{IsRecord, malformed, ClipsWithin, Borne, ownReasons, reasonsAgainst}
+use Rattle.sff_correction.specs.Reasons.{clipsAbove, bears, reasons}
+use Rattle.sff_correction.specs.InOrder.{malformed, ClipsWithin, Borne, ownReasons, reasonsAgainst}
 use Rattle.sff_correction.specs.Numbers.{recordNumbers, correctNumbers}
 use Rattle.sff_correction.specs.Correct.{correctTest}
 use Rattle.sff_correction.proofs.Edited.{clips-low}

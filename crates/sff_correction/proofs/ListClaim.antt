@@ -27,7 +27,7 @@ use Rattle.sff_format.proofs.FileTaken.{file-taken, file-back}
 use Rattle.sff_correction.specs.Record.{recordTest}
 use Rattle.sff_correction.specs.Edit.{edited}
 use Rattle.sff_correction.specs.Reasons.{reasons}
-use Rattle.sff_correction.specs.Correct.{correctTest, corrected, correctOutcome, over, correctBuffer}
+use Rattle.sff_correction.specs.Correct.{correctTest, corrected, correctOutcome, correctBuffer}
 use Rattle.sff_correction.specs.Numbers.{correctNumbers}
 use Rattle.sff_correction.specs.ListRun.{recordAt, Run, ran, turns, runList}
 use Rattle.sff_correction.specs.ListModel.{fileAfter, reasonFor, firstRefused, greatest, lastTried, runOn, reasonsInTurn, firstTest, listAfresh}

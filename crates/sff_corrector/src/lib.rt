@@ -1,10 +1,9 @@
 // Corrections of a file in place: by one record, and by a list of them. All reasons to refuse a record are judged before it changes a byte.
 ghost use mathlib.Core.Path.{_≡_};
 ghost use Prim.Native.Nat.{_+_, _-_, _*_, _≤_, _<_};
-ghost use lib.ListN.{length, take};
+ghost use lib.ListN.{length};
 ghost use Rattle.octets.specs.Parts.{part};
 ghost use Rattle.answers.specs.declared.Answer.the-variants.{Accepted};
-ghost use Rattle.sff_format.specs.FileTest.{fileTest};
 ghost use Rattle.sff_correction.specs.Record.{recordTest};
 ghost use Rattle.sff_correction.specs.Correct.{correctOutcome, correctBuffer};
 ghost use Rattle.sff_correction.specs.ListRun.{turns, runList};

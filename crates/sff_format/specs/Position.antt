@@ -4,7 +4,6 @@ use mathlib.Core.Bool.{not}
 use mathlib.Core.List.{List, []}
 use lib.Dec.{ltb, eqb}
 use Rattle.answers.specs.declared.Answer.{Answer}
-use Rattle.answers.specs.declared.Answer.the-variants.{Accepted, Refused}
 use Rattle.sff_format.specs.declared.Stretch.{Stretch}
 use Rattle.sff_format.specs.declared.ReadView.{ReadView}
 use Rattle.answers.specs.Answer.{when, acceptedOr, _then_}

@@ -1,20 +1,18 @@
 -- A step: what its tests tell where they accept, and what is answered then. Assumes nothing.
 use Prim.Native.Nat.{ℕ, _+_, _≤_, _<_}
-use mathlib.Core.Path.{_≡_, refl, sym, ap, _∙_}
+use mathlib.Core.Path.{_≡_, refl, sym}
 use mathlib.Core.Bool.{Bool, true, false, cond}
 use mathlib.Core.List.{List}
-use native.Mathlib.Omega.{arith}
 use lib.ListN.{length}
 use lib.Dec.{ltb}
 use borrow.Author.Tests.{ltb-true}
-use Rattle.answers.specs.declared.Answer.{Answer}
 use Rattle.answers.specs.declared.Answer.the-variants.{Accepted, Refused}
 use Rattle.sff_format.specs.declared.ReadView.{ReadView}
 use Rattle.answers.specs.Answer.{_then_}
 use Rattle.sff_format.specs.HeaderTest.{headerTest, readCount, flows, flowCharacters}
 use Rattle.sff_format.specs.ReadTest.{readTest, readEnd}
 use Rattle.sff_format.specs.FileTest.{endTest}
-use Rattle.sff_format.specs.Step.{State, readOrNone, stepTest, boundary, indexPassed, moved, found, step}
+use Rattle.sff_format.specs.Step.{State, readOrNone, stepTest, boundary, indexPassed, found, step}
 use Rattle.sff_format.specs.View.{viewAt}
 use Rattle.answers.proofs.Answers.{not-accepted, first-ok, second-ok, under-ok}
 use Rattle.sff_format.proofs.Steps.{step-found}

@@ -55,7 +55,7 @@ unfoldable pub firstTest : List ℕ → ℕ → List ℕ → Answer
 firstTest buffer len l = when (ltb (length buffer) len) 14 0 then recordTest (recordAt 0 l) then fileTest (take len buffer)
 
 -- any list on any buffer with any stated length. "A list's length is a multiple of 96, else 20 before all else, with nothing done"; "An empty list is carried out with
--- count 0, the file untested and the length as given"; a list that stops there does nothing; and else those before the first for which a reason holds are carried out
+-- count 0, the file untested and the length as given"; one that `firstTest` refuses does nothing; of any other the records before the first for which a reason holds are carried out
 unfoldable pub listAfresh : List ℕ → ℕ → List ℕ → Run
 listAfresh buffer len l =
     let all = length l / 96 in

@@ -1,4 +1,4 @@
-#include "plain.h"
+#include "sides.h"
 
 #include <stdbool.h>
 #include <string.h>

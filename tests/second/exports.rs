@@ -264,17 +264,7 @@ pub fn append_many(
 }
 
 pub fn correct(buffer: &mut Lent<u8>, file_length: u64, record: &Lent<u8>) -> Made {
-    Made::by(|place, length| unsafe {
-        h_correct(
-            buffer.pointer_to_write(),
-            buffer.len(),
-            file_length,
-            record.pointer(),
-            record.len(),
-            place,
-            length,
-        )
-    })
+    Made::by_correction(h_correct, buffer, file_length, record)
 }
 
 /// What a list leaves: how many records were carried out, and what the last one tried answered.

@@ -19,15 +19,5 @@ pub fn test(file: &Lent<u8>) -> (u64, u64) {
 }
 
 pub fn correct(buffer: &mut Lent<u8>, file_length: u64, record: &Lent<u8>) -> Made {
-    Made::by(|place, length| unsafe {
-        sffstore_correct(
-            buffer.pointer_to_write(),
-            buffer.len(),
-            file_length,
-            record.pointer(),
-            record.len(),
-            place,
-            length,
-        )
-    })
+    Made::by_correction(sffstore_correct, buffer, file_length, record)
 }

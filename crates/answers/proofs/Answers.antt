@@ -1,7 +1,7 @@
 -- A chain of tests accepts exactly if each accepts; a scan accepts exactly if it reaches the end. Assumes nothing.
 use Prim.Native.Nat.{ℕ, _+_, _-_, _≤_, _<_}
 use mathlib.Core.Path.{_≡_, refl, sym, ap}
-use mathlib.Core.Bool.{Bool, true, false, not, _||_}
+use mathlib.Core.Bool.{Bool, true, false, cond, not, _&&_, _||_}
 use mathlib.Core.List.{List}
 use native.Mathlib.Omega.{arith}
 use lib.Dec.{ltb, eqb}
@@ -68,6 +68,21 @@ or-left false t e = refl
 pub or-right : (s t : Bool) → (s || t) ≡ false → t ≡ false
 or-right true t e = let z : _≡_ {A = ℕ} 0 1 = cc in absurd (let f : ⊥ = omega arith in f)
 or-right false t e = e
+
+-- both of two tests hold
+pub and-both : (s t : Bool) → (s && t) ≡ true → (s ≡ true) × (t ≡ true)
+and-both true t e = (refl, e)
+and-both false t e = let z : _≡_ {A = ℕ} 0 1 = cc in absurd (let f : ⊥ = omega arith in f)
+
+-- what holds of two things holds of the one that a test or an answer chooses
+pub cond-keeps : {A : Type 0} (P : A → Type 0) (t : Bool) (x y : A) → P x → P y → P (cond t x y)
+cond-keeps P true x y h k = h
+cond-keeps P false x y h k = k
+
+pub either-keeps : {A : Type 0} (P : A → Type 0) (a : Answer) (x y : A) → P x → P y → P (acceptedOr a x y)
+unfolding acceptedOr
+either-keeps P Accepted x y h k = h
+either-keeps P (Refused n p) x y h k = k
 
 -- the tests by their facts: "under" and "not equal"
 pub under-ok : (x y n p : ℕ) → when (ltb x y) n p ≡ Accepted → y ≤ x

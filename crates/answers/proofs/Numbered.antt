@@ -1,13 +1,14 @@
 -- What all refusals of a chain of tests have in common: a property of number and place, as that the number is one of a list's. Assumes nothing.
 use Prim.Native.Nat.{ℕ}
 use mathlib.Core.Path.{_≡_, refl, sym, _∙_}
-use mathlib.Core.Bool.{Bool, true, false, cond, _&&_, _||_}
+use mathlib.Core.Bool.{Bool, true, false, _&&_, _||_}
 use mathlib.Core.List.{List, [], _∷_}
 use native.Mathlib.Omega.{arith}
 use borrow.Author.Tests.{eqb-true}
 use lib.Dec.{eqb}
 use Rattle.answers.specs.declared.Answer.{Answer}
 use Rattle.answers.specs.declared.Answer.the-variants.{Accepted, Refused}
+use Rattle.answers.proofs.Answers.{and-both}
 use Rattle.answers.specs.Answer.{numberOf, when, shifted, own, _then_, Refusing, among, Among}
 
 module _ (P : ℕ → ℕ → Type 0) where
@@ -20,10 +21,6 @@ module _ (P : ℕ → ℕ → Type 0) where
   unfolding when
   when-refusing true n p h = h
   when-refusing false n p h = tt
-
-  pub either-refusing : (t : Bool) (a b : Answer) → Refusing P a → Refusing P b → Refusing P (cond t a b)
-  either-refusing true a b h k = h
-  either-refusing false a b h k = k
 
 -- a property of the number alone is kept where the place changes
 module _ (P : ℕ → Type 0) where
@@ -42,18 +39,13 @@ abbrev pub within : List ℕ → List ℕ → Bool
 within [] ms = true
 within (n ∷ ns) ms = among n ms && within ns ms
 
-both : (s t : Bool) → (s && t) ≡ true → (s ≡ true) × (t ≡ true)
-both true true e = (refl, refl)
-both true false e = (refl, e)
-both false t e = absurd (let z : _≡_ {A = ℕ} 0 1 = cc in let a : ⊥ = omega arith in a)
-
 among-within : (n : ℕ) (ns ms : List ℕ) → within ns ms ≡ true → among n ns ≡ true → among n ms ≡ true
 unfolding among
 among-within n [] ms w h = absurd (let z : _≡_ {A = ℕ} 0 1 = cc in let a : ⊥ = omega arith in a)
-among-within n (m ∷ ns) ms w h = go (eqb n m) refl h (among-within n ns ms (both (among m ms) (within ns ms) w .1))
+among-within n (m ∷ ns) ms w h = go (eqb n m) refl h (among-within n ns ms (and-both (among m ms) (within ns ms) w .1))
   where
     go : (t : Bool) → eqb n m ≡ t → (t || among n ns) ≡ true → (among n ns ≡ true → among n ms ≡ true) → among n ms ≡ true
-    go true e k f = rw (eqb-true n m e) (both (among m ms) (within ns ms) w .0)
+    go true e k f = rw (eqb-true n m e) (and-both (among m ms) (within ns ms) w .0)
     go false e k f = f k
 
 pub more-numbers : (ns ms : List ℕ) → within ns ms ≡ true → (a : Answer) → Among ns a → Among ms a

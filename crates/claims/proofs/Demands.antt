@@ -9,10 +9,12 @@ use mathlib.Core.List.{List}
 use lib.ListN.{length, take}
 use Rattle.octets.specs.Parts.{putAt, settled}
 use Rattle.octets.specs.Numbers.{Bytes}
+use Rattle.answers.specs.declared.Answer.{Answer}
 use Rattle.answers.specs.declared.Answer.the-variants.{Accepted}
 use Rattle.answers.specs.Answer.{numberOf, Among}
-use Rattle.answers.specs.Reasons.{NoneHolds, FirstHolds}
+use Rattle.answers.specs.Reasons.{Reason, NoneHolds, FirstHolds}
 use Rattle.answers.proofs.Numbered.{zero-accepted}
+use Rattle.answers.proofs.Reasons.{one-first}
 use Rattle.sff_format.specs.Rules.{declared}
 use Rattle.sff_format.specs.Model.{File, noIndex, layout}
 use Rattle.sff_format.specs.Valid.{Valid, IsFile}
@@ -131,6 +133,10 @@ one-record buffer len r y z = record {
   afresh = carried-left buffer len r y z;
   valid = carried-valid buffer len r y z;
 }
+
+-- and `FirstHolds` leaves no choice: one answer alone is that of the first reason that holds
+pub one-answer : (qs : List Reason) (a b : Answer) → FirstHolds qs a → FirstHolds qs b → a ≡ b
+one-answer = one-first
 
 -- So a file without index that is corrected in place is the one that a new file and an append for each of its reads, with that one changed or left out, leave in any buffer that holds it.
 -- Code: `sff_corrector::correct`; `sff_writer::new_file` and `append`.

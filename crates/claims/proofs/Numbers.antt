@@ -2,6 +2,7 @@
 use mathlib.Core.Path.{_≡_, refl}
 use mathlib.Core.Bool.{false}
 use Rattle.answers.specs.Answer.{among, Among}
+use Rattle.sff_format.specs.Writing.{newOutcome, appendOutcome}
 use Rattle.sff_format.proofs.Refusals.{header-numbers, file-numbers, step-numbers, position-numbers, signal-numbers, new-numbers, append-numbers}
 use Rattle.sff_correction.proofs.InOrder.{record-numbers}
 use Rattle.sff_correction.proofs.Answered.{outcome-numbers}
@@ -12,6 +13,7 @@ use lib.ListN.{length}
 use Rattle.claims.specs.Calls.{Call, header-test, file-test, reader-step, position-test, signal-test, new-file, append, record-test, correct, correct-list, undo-block, undo-layer, encode-layer, encode-samples, undo-samples, answerOf, numbersOf}
 
 pub call-numbers : (c : Call) → Among (numbersOf c) (answerOf c)
+unfolding newOutcome appendOutcome
 call-numbers (header-test b) = header-numbers b
 call-numbers (file-test b) = file-numbers b
 call-numbers (reader-step b s) = step-numbers b s

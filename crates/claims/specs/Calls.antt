@@ -8,7 +8,7 @@ use Rattle.sff_format.specs.HeaderTest.{headerTest}
 use Rattle.sff_format.specs.FileTest.{fileTest}
 use Rattle.sff_format.specs.Step.{State, stepAnswer, step}
 use Rattle.sff_format.specs.Position.{positionTest, signalTest}
-use Rattle.sff_format.specs.Writing.{newTest, appendTest}
+use Rattle.sff_format.specs.Writing.{newOutcome, appendOutcome}
 use Rattle.sff_format.specs.Numbers.{headerNumbers, fileNumbers, stepNumbers, positionNumbers, signalNumbers, newNumbers, appendNumbers}
 use Rattle.sff_correction.specs.Record.{recordTest}
 use Rattle.sff_correction.specs.Correct.{correctOutcome}
@@ -49,8 +49,8 @@ answerOf (file-test b) = fileTest b
 answerOf (reader-step b s) = stepAnswer (step b s)
 answerOf (position-test b i) = positionTest b i
 answerOf (signal-test b i) = signalTest b i
-answerOf (new-file buffer characters key) = newTest (length buffer) characters key
-answerOf (append buffer len r) = appendTest buffer len r
+answerOf (new-file buffer characters key) = newOutcome buffer characters key .answer
+answerOf (append buffer len r) = appendOutcome buffer len r .answer
 answerOf (record-test r) = recordTest r
 answerOf (correct buffer len r) = correctOutcome buffer len r .answer
 answerOf (correct-list buffer len l) = runList buffer len l .outcome .answer

@@ -1,11 +1,12 @@
 -- The numbers that each call may answer with; and so "Every answer has a number (0 accepted)": 0 is acceptance's alone. Assumes nothing.
 use Prim.Native.Nat.{ℕ, zero, suc}
 use mathlib.Core.Path.{_≡_, refl}
-use mathlib.Core.Bool.{Bool, true, false, cond}
+use mathlib.Core.Bool.{cond}
 use mathlib.Core.List.{List}
 use Rattle.answers.specs.declared.Answer.{Answer}
-use Rattle.answers.specs.declared.Answer.the-variants.{Accepted, Refused}
+use Rattle.answers.specs.declared.Answer.the-variants.{Accepted}
 use Rattle.answers.specs.Answer.{numberOf, acceptedOr, among, Among}
+use Rattle.answers.proofs.Answers.{cond-keeps, either-keeps}
 use Rattle.answers.proofs.Numbered.{zero-accepted, then-refusing, when-refusing, more-numbers}
 use Rattle.filter_format.specs.declared.Filter.{Filter}
 use Rattle.filter_format.specs.Block.{filterAt, isRaw, undone, contentsTest}
@@ -47,13 +48,7 @@ samples-test-numbers room precision s = then-refusing _ _ _ (when-refusing _ _ 4
 
 -- what a test comes to has the test's number
 either-numbers : (ns : List ℕ) (a : Answer) (r : Result) → Among ns a → Among ns (r .answer) → Among ns (acceptedOr a r (refusing a) .answer)
-unfolding acceptedOr
-either-numbers ns Accepted r h k = k
-either-numbers ns (Refused n p) r h k = h
-
-cond-numbers : (ns : List ℕ) (t : Bool) (q r : Result) → Among ns (q .answer) → Among ns (r .answer) → Among ns (cond t q r .answer)
-cond-numbers ns true q r h k = h
-cond-numbers ns false q r h k = k
+either-numbers ns a r h k = either-keeps (λ (q : Result). Among ns (q .answer)) a r (refusing a) k h
 
 from-numbers : (left room : ℕ) (b : List ℕ) → Among undoNumbers (undoFrom left room b .answer)
 unfolding undoFrom
@@ -61,7 +56,7 @@ from-numbers zero room b = either-numbers undoNumbers (blockTest 0 room b) (maki
 from-numbers (suc left) room b =
     let inner = undone (filterAt b) b in
     either-numbers undoNumbers (blockTest (suc left) room b) (cond (isRaw (filterAt b)) (making inner) (undoFrom left room inner)) (block-numbers (suc left) room b)
-    (cond-numbers undoNumbers (isRaw (filterAt b)) (making inner) (undoFrom left room inner) tt (from-numbers left room inner))
+    (cond-keeps (λ (q : Result). Among undoNumbers (q .answer)) (isRaw (filterAt b)) (making inner) (undoFrom left room inner) tt (from-numbers left room inner))
 
 pub undo-numbers : (room : ℕ) (b : List ℕ) → Among undoNumbers (undo room b .answer)
 undo-numbers room b = from-numbers mostFilters room b

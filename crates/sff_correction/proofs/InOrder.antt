@@ -15,8 +15,8 @@ use Rattle.octets.proofs.AllBytes.{bytes-take}
 use Rattle.answers.specs.declared.Answer.{Answer}
 use Rattle.answers.specs.declared.Answer.the-variants.{Accepted, Refused}
 use Rattle.answers.specs.Answer.{numberOf, acceptedOr, _then_, Refusing, among, Among}
-use Rattle.answers.proofs.Answers.{not-accepted, first-ok, second-ok, both-ok, under-ok, ok-under, when-ok, or-left, or-right}
-use Rattle.answers.proofs.Numbered.{zero-accepted, then-refusing, when-refusing, either-refusing, more-numbers}
+use Rattle.answers.proofs.Answers.{not-accepted, first-ok, second-ok, both-ok, under-ok, ok-under, when-ok, or-left, or-right, and-both, cond-keeps}
+use Rattle.answers.proofs.Numbered.{zero-accepted, then-refusing, when-refusing, more-numbers}
 use Rattle.answers.proofs.Reasons.{Tests, when-tests, Judged, chain-judged, last-judged}
 use Rattle.sff_format.specs.Model.{Read, File, noIndex, layout}
 use Rattle.sff_format.specs.ReadTest.{clipTest}
@@ -133,10 +133,6 @@ module _ (n : ℕ) (r : List ℕ) where
       ap (λ (a : Answer). acceptedOr a false true) t
 
 -- a condition of one kind alone
-and-both : (s t : Bool) → (s && t) ≡ true → (s ≡ true) × (t ≡ true)
-and-both true t e = (refl, e)
-and-both false t e = absurd (let z : _≡_ {A = ℕ} 0 1 = cc in let a : ⊥ = omega arith in a)
-
 and-second : (s t : Bool) → (s && t) ≡ false → s ≡ true → t ≡ false
 and-second s t e k = rw k at e
 
@@ -212,9 +208,9 @@ record-20 r =
     (
     then-refusing _ _ _ (field-20 16 (oldLength r) r)
     (
-    then-refusing _ _ _ (either-refusing _ (isClips r) Accepted (unusedTest 8 8 r) tt (unused-20 8 8 r))
+    then-refusing _ _ _ (cond-keeps (Refusing (λ m q. (m ≡ 20) × (q ≡ 0))) (isClips r) Accepted (unusedTest 8 8 r) tt (unused-20 8 8 r))
     (
-    either-refusing _ (isRename r) (nameFieldTest 56 (newLength r) r) (unusedTest 2 1 r then unusedTest 56 40 r)
+    cond-keeps (Refusing (λ m q. (m ≡ 20) × (q ≡ 0))) (isRename r) (nameFieldTest 56 (newLength r) r) (unusedTest 2 1 r then unusedTest 56 40 r)
     (field-20 56 (newLength r) r) (then-refusing _ _ _ (unused-20 2 1 r) (unused-20 56 40 r))
     )
     )

@@ -20,7 +20,7 @@ use Rattle.sff_format.specs.Model.{File, layout}
 use Rattle.sff_format.specs.Valid.{Valid}
 use Rattle.sff_format.specs.FileTest.{fileTest}
 use Rattle.sff_format.specs.Parse.{parse}
-use Rattle.answers.proofs.Answers.{first-ok, second-ok, not-accepted, then-assoc, under-ok}
+use Rattle.answers.proofs.Answers.{first-ok, second-ok, not-accepted, then-assoc, under-ok, either-keeps}
 use Rattle.answers.proofs.Reasons.{Judged, chain-judged, none-accepted}
 use Rattle.sff_format.proofs.FileLaid.{file-laid, file-valid}
 use Rattle.sff_format.proofs.FileTaken.{file-taken, file-back}
@@ -211,18 +211,13 @@ module _ (room : ℕ) (l : List ℕ) (f : File) (all : ℕ) (y : Bytes l) where
   stop-refused h n = one-at room l f all 0 (omega (arith, h)) (none-accepted (reasonsInTurn room stop l f) (reasonFor room stop l f) (turn-judged room stop l f y .first) n)
 
 -- a list's answer has the number of a correction's
-either-numbers : (a : Answer) (v w : Run) → Among correctNumbers (v .outcome .answer) → Among correctNumbers (w .outcome .answer) → Among correctNumbers (acceptedOr a v w .outcome .answer)
-unfolding acceptedOr
-either-numbers Accepted v w h k = h
-either-numbers (Refused n p) v w h k = k
-
 turns-numbers : (m k : ℕ) (b : List ℕ) (len : ℕ) (l : List ℕ) → Among correctNumbers (turns m k b len l .outcome .answer)
 unfolding turns correctOutcome
 turns-numbers zero k b len l = tt
 turns-numbers (suc m) k b len l =
     let r = recordAt k l in
     let o = correctOutcome b len r in
-    either-numbers (correctTest b len r) (turns m (suc k) (correctBuffer b len r) (o .length) l) (ran k (o .answer) (o .length) (correctBuffer b len r))
+    either-keeps (λ (v : Run). Among correctNumbers (v .outcome .answer)) (correctTest b len r) (turns m (suc k) (correctBuffer b len r) (o .length) l) (ran k (o .answer) (o .length) (correctBuffer b len r))
     (turns-numbers m (suc k) (correctBuffer b len r) (o .length) l) (correct-numbers b len r)
 
 pub list-numbers : (b : List ℕ) (len : ℕ) (l : List ℕ) → Among correctNumbers (runList b len l .outcome .answer)

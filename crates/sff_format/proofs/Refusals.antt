@@ -1,14 +1,15 @@
 -- The numbers that each call may answer with; and so "Every answer has a number (0 accepted)": 0 is acceptance's alone. Assumes nothing.
 use Prim.Native.Nat.{ℕ, zero, suc}
 use mathlib.Core.Path.{_≡_, refl}
-use mathlib.Core.Bool.{Bool, true, false}
+use mathlib.Core.Bool.{Bool, false}
 use mathlib.Core.List.{List, [], _∷_}
 use lib.ListN.{length, take}
 use lib.Dec.{ltb}
 use Rattle.answers.specs.declared.Answer.{Answer}
 use Rattle.answers.specs.declared.Answer.the-variants.{Accepted, Refused}
-use Rattle.answers.specs.Answer.{numberOf, _then_, acceptedOr, among, Among}
-use Rattle.answers.proofs.Numbered.{zero-accepted, then-refusing, when-refusing, either-refusing, shifted-refusing, own-refusing, within, more-numbers}
+use Rattle.answers.specs.Answer.{numberOf, _then_, among, Among}
+use Rattle.answers.proofs.Answers.{cond-keeps, either-keeps}
+use Rattle.answers.proofs.Numbered.{zero-accepted, then-refusing, when-refusing, shifted-refusing, own-refusing, more-numbers}
 use Rattle.sff_format.specs.HeaderTest.{fixedTest, charactersTest, headerTest, readCount, headerLength, flows, flowCharacters}
 use Rattle.sff_format.specs.ReadTest.{nameTest, clipTest, basesTest, dataTest, readTest}
 use Rattle.sff_format.specs.FileTest.{indexHere, passTest, indexTest, endTest, boundaryTest, fileTest}
@@ -82,7 +83,7 @@ read-numbers characters b p =
 
 index-numbers : (b : List ℕ) (p : ℕ) (q : Bool) → Among fileNumbers (indexTest b p q)
 unfolding indexTest passTest among
-index-numbers b p q = either-refusing _ (indexHere b p q) (passTest b p) Accepted (when-refusing _ _ 1 _ refl) tt
+index-numbers b p q = cond-keeps (Among fileNumbers) (indexHere b p q) (passTest b p) Accepted (when-refusing _ _ 1 _ refl) tt
 
 end-numbers : (b : List ℕ) (p : ℕ) (q : Bool) → Among fileNumbers (endTest b p q)
 unfolding endTest among
@@ -98,26 +99,22 @@ pub file-numbers : (b : List ℕ) → Among fileNumbers (fileTest b)
 unfolding fileTest
 file-numbers b = then-refusing _ _ _ (header-in-file b) (boundary-numbers b (readCount b) (headerLength b) false)
 
--- the file's numbers are among those of every call on it
-file-in : (ns : List ℕ) → within fileNumbers ns ≡ true → (a : Answer) → Among fileNumbers a → Among ns a
-file-in ns w a h = more-numbers fileNumbers ns w a h
-
 step-test-numbers : (b : List ℕ) (s : State) → Among stepNumbers (stepTest b s)
 unfolding stepTest readOrNone among
 step-test-numbers b s =
-    then-refusing _ _ _ (file-in stepNumbers refl (headerTest b) (header-in-file b))
+    then-refusing _ _ _ (more-numbers fileNumbers stepNumbers refl (headerTest b) (header-in-file b))
     (
     then-refusing _ _ _ (when-refusing _ _ 1 _ refl)
     (
-    then-refusing _ _ _ (file-in stepNumbers refl (indexTest b (s .place) (s .passed-index)) (index-numbers b (s .place) (s .passed-index)))
+    then-refusing _ _ _ (more-numbers fileNumbers stepNumbers refl (indexTest b (s .place) (s .passed-index)) (index-numbers b (s .place) (s .passed-index)))
     (
-    either-refusing _ (ltb (s .passed-reads) (readCount b))
+    cond-keeps (Among stepNumbers) (ltb (s .passed-reads) (readCount b))
     (readTest (flowCharacters b) b (boundary b s))
     (endTest b (boundary b s) (indexPassed b s) then Refused 33 (boundary b s))
-    (file-in stepNumbers refl (readTest (flowCharacters b) b (boundary b s)) (read-numbers (flowCharacters b) b (boundary b s)))
+    (more-numbers fileNumbers stepNumbers refl (readTest (flowCharacters b) b (boundary b s)) (read-numbers (flowCharacters b) b (boundary b s)))
     (
     then-refusing _ (endTest b (boundary b s) (indexPassed b s)) (Refused 33 (boundary b s))
-    (file-in stepNumbers refl (endTest b (boundary b s) (indexPassed b s)) (end-numbers b (boundary b s) (indexPassed b s)))
+    (more-numbers fileNumbers stepNumbers refl (endTest b (boundary b s) (indexPassed b s)) (end-numbers b (boundary b s) (indexPassed b s)))
     refl
     )
     )
@@ -138,7 +135,7 @@ step-numbers b s = rw (step-answered b s) (step-test-numbers b s)
 
 pub position-numbers : (b : List ℕ) (i : ℕ) → Among positionNumbers (positionTest b i)
 unfolding positionTest among
-position-numbers b i = then-refusing _ _ _ (file-in positionNumbers refl (fileTest b) (file-numbers b)) (when-refusing _ _ 21 _ refl)
+position-numbers b i = then-refusing _ _ _ (more-numbers fileNumbers positionNumbers refl (fileTest b) (file-numbers b)) (when-refusing _ _ 21 _ refl)
 
 pub signal-numbers : (b : List ℕ) (i : ℕ) → Among signalNumbers (signalTest b i)
 unfolding signalTest among
@@ -162,8 +159,8 @@ given-numbers characters r =
     (
     then-refusing _ _ _ (when-refusing _ _ 6 _ refl)
     (
-    then-refusing _ _ _ (own-refusing _ _ (file-in appendNumbers refl (clipTest 0 n ql qr al ar) (clip-numbers 0 n ql qr al ar)))
-    (own-refusing _ _ (file-in appendNumbers refl (basesTest characters (r .increments) (r .bases)) (bases-numbers characters (r .increments) (r .bases))))
+    then-refusing _ _ _ (own-refusing _ _ (more-numbers fileNumbers appendNumbers refl (clipTest 0 n ql qr al ar) (clip-numbers 0 n ql qr al ar)))
+    (own-refusing _ _ (more-numbers fileNumbers appendNumbers refl (basesTest characters (r .increments) (r .bases)) (bases-numbers characters (r .increments) (r .bases))))
     )
     )
     )
@@ -174,7 +171,7 @@ append-numbers buffer len r =
     then-refusing _ _ _ (when-refusing _ _ 14 _ refl)
     (
     then-refusing _ _ _
-    (then-refusing _ _ _ (file-in appendNumbers refl (fileTest (take len buffer)) (file-numbers (take len buffer))) (then-refusing _ _ _ (when-refusing _ _ 25 _ refl) (when-refusing _ _ 31 _ refl)))
+    (then-refusing _ _ _ (more-numbers fileNumbers appendNumbers refl (fileTest (take len buffer)) (file-numbers (take len buffer))) (then-refusing _ _ _ (when-refusing _ _ 25 _ refl) (when-refusing _ _ 31 _ refl)))
     (then-refusing _ _ _ (given-numbers (flowCharacters (take len buffer)) r) (when-refusing _ _ 26 _ refl))
     )
 
@@ -188,16 +185,11 @@ unfolding among
 append-zero buffer len r e = zero-accepted appendNumbers refl (appendTest buffer len r) (append-numbers buffer len r) e
 
 -- nor is it a refusal's of a file that is written
-either-numbers : (a : Answer) (v w : Left) → Among appendNumbers (v .outcome .answer) → Among appendNumbers (w .outcome .answer) → Among appendNumbers (acceptedOr a v w .outcome .answer)
-unfolding acceptedOr
-either-numbers Accepted v w h k = h
-either-numbers (Refused n p) v w h k = k
-
 each-numbers : (w : Left) (rs : List Read) → Among appendNumbers (w .outcome .answer) → Among appendNumbers (appendEach w rs .outcome .answer)
 unfolding appendEach appendOutcome
 each-numbers w [] h = h
 each-numbers w (r ∷ rs) h =
-    either-numbers (w .outcome .answer) (appendEach (appendTo w r) rs) w
+    either-keeps (λ (v : Left). Among appendNumbers (v .outcome .answer)) (w .outcome .answer) (appendEach (appendTo w r) rs) w
     (each-numbers (appendTo w r) rs (append-numbers (w .buffer) (w .outcome .length) r)) h
 
 pub written-zero : (buffer : List ℕ) (f : File) → numberOf (writeEach buffer f .outcome .answer) ≡ 0 → writeEach buffer f .outcome .answer ≡ Accepted

@@ -1,7 +1,7 @@
 -- What is written afresh is bytes. Assumes nothing.
 use Prim.Native.Nat.{ℕ, _<_}
 use mathlib.Core.Path.{_≡_, refl}
-use mathlib.Core.Bool.{Bool, true, false, _&&_, _||_}
+use mathlib.Core.Bool.{Bool, true, false, _||_}
 use mathlib.Core.List.{List, [], _∷_, _++_}
 use native.Mathlib.Omega.{arith}
 use lib.ListN.{length, take, drop}
@@ -13,14 +13,11 @@ use Rattle.octets.specs.Scans.{isFlowCharacter, isNameByte}
 use Rattle.octets.proofs.AllBytes.{bytes-both, bytes-left, bytes-right, bytes-take, bytes-drop, bytes-fields, bytes-units, bytes-filled, bytes-every}
 use Rattle.sff_format.specs.Model.{Read, File, readFields, headerFields, layoutReadHeader, layoutReadData, layoutRead, layoutReads, layoutHeader, layoutIndex, layout}
 use Rattle.sff_format.specs.Rules.{indexSize}
+use Rattle.answers.proofs.Answers.{and-both}
 use Rattle.sff_format.specs.Valid.{ValidRead, ValidReads, Valid}
 
-and-right : (s t : Bool) → (s && t) ≡ true → t ≡ true
-and-right true t e = e
-and-right false t e = absurd (let z : _≡_ {A = ℕ} 0 1 = cc in let a : ⊥ = omega arith in a)
-
 pub name-small : (x : ℕ) → isNameByte x ≡ true → x < 256
-name-small x e = let l = leb-true x 126 (and-right (leb 33 x) (leb x 126) e) in omega arith
+name-small x e = let l = leb-true x 126 (and-both (leb 33 x) (leb x 126) e .1) in omega arith
 
 base-small : (x : ℕ) → isFlowCharacter x ≡ true → x < 256
 base-small x e = go (eqb x 65) (eqb x 67) (eqb x 71) (eqb x 84) refl refl refl refl e

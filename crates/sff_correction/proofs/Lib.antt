@@ -12,3 +12,4 @@ pub mod Carried
 pub mod Answered
 pub mod ListTurns
 pub mod ListClaim
+pub mod InTurn

@@ -48,12 +48,12 @@ module _ (f : File) (m : ℕ) (b : List ℕ) (v : Valid f) (h : length (layout f
   model-new = rw (take-settled (layout f) m b, file-back f v)
 
 -- the state of a run after k records
-record Held (k : ℕ) (b l : List ℕ) (f : File) : Type 0 where
+pub record Held (k : ℕ) (b l : List ℕ) (f : File) : Type 0 where
   pub valid : Valid (fileAfter k l f)
   pub low : length (layout (fileAfter k l f)) ≤ greatest k l f
   pub high : greatest k l f ≤ length b
 
-held-more : (k : ℕ) (b l : List ℕ) (f : File) → Bytes l → Held k b l f → reasonFor (length b) k l f ≡ Accepted → Held (suc k) b l f
+pub held-more : (k : ℕ) (b l : List ℕ) (f : File) → Bytes l → Held k b l f → reasonFor (length b) k l f ≡ Accepted → Held (suc k) b l f
 unfolding fileAfter reasonFor greatest
 held-more k b l f y s e =
     let q = first-ok _ _ e in
@@ -69,14 +69,14 @@ held-more k b l f y s e =
 
 module _ (m k : ℕ) (b l : List ℕ) (f : File) (s : Held k b l f) where
   -- the buffer after k records
-  abbrev now : List ℕ
+  abbrev pub now : List ℕ
   now = settled (layout (fileAfter k l f)) (greatest k l f) b
 
-  held-test : correctTest now (length (layout (fileAfter k l f))) (recordAt k l) ≡ reasonFor (length b) k l f
+  pub held-test : correctTest now (length (layout (fileAfter k l f))) (recordAt k l) ≡ reasonFor (length b) k l f
   unfolding reasonFor
   held-test = model-test (fileAfter k l f) (greatest k l f) b (s .valid) (s .low) (s .high) (recordAt k l)
 
-  held-new : corrected now (length (layout (fileAfter k l f))) (recordAt k l) ≡ layout (fileAfter (suc k) l f)
+  pub held-new : corrected now (length (layout (fileAfter k l f))) (recordAt k l) ≡ layout (fileAfter (suc k) l f)
   unfolding fileAfter
   held-new = model-new (fileAfter k l f) (greatest k l f) b (s .valid) (s .low) (s .high) (recordAt k l)
 
@@ -104,20 +104,29 @@ turns-are (suc m) k b l f all y e s = go (reasonFor (length b) k l f) refl (turn
     go Accepted x ih = step-on m k b l f s x ∙ ih (held-more k b l f y s x)
     go (Refused n p) x ih = step-stop m k b l f s all n p (omega arith) x
 
--- The claim: of a list of whole records on an accepted file, the records before the first for which a reason holds in its turn are carried out, and no others. The count is how
--- many; the answer is that reason, or none; the file is written afresh as these records have left its reads, then zeros up to the greatest length that it had, and the rest as it was.
-pub list-claim : (b : List ℕ) (len : ℕ) (l : List ℕ) → Bytes b → Bytes l → len ≤ length b → fileTest (take len b) ≡ Accepted → length l % 96 ≡ 0
-    → runList b len l ≡ runOn (length l / 96) (firstRefused (length l / 96) 0 (length b) l (parse (take len b))) b l (parse (take len b))
-unfolding fileAfter greatest
-list-claim b len l y z h e w =
-    let f = parse (take len b) in
-    let laid : layout f ≡ take len b = file-laid (take len b) (bytes-take len b y) e in
-    let n : length (layout f) ≡ len = ap length laid ∙ length-take-le len b h in
-    let front : settled (layout f) (length (layout f)) b ≡ b = rw n (settled-front (layout f) len b (sym laid) h) in
-    let s : Held 0 b l f = record { valid = file-valid (take len b) (bytes-take len b y) e; low = omega arith; high = omega arith } in
-    list-run b len l w
-    ∙ ap (λ (i : ℕ). turns (length l / 96) 0 b i l) (sym n) ∙ ap (λ (x : List ℕ). turns (length l / 96) 0 x (length (layout f)) l) (sym front)
-    ∙ turns-are (length l / 96) 0 b l f (length l / 96) z (omega arith) s
+-- of the first m records of a list on an accepted file, those before the first for which a reason holds in its turn are carried out, and no others. The count is how many; the answer
+-- is that reason, or none; the file is written afresh as these records have left its reads, then zeros up to the greatest length that it had, and the rest as it was
+module _ (b : List ℕ) (len : ℕ) (l : List ℕ) (y : Bytes b) (z : Bytes l) (h : len ≤ length b) (e : fileTest (take len b) ≡ Accepted) where
+  abbrev start : File
+  start = parse (take len b)
+
+  pub start-held : (length (layout start) ≡ len) × (settled (layout start) (length (layout start)) b ≡ b) × Held 0 b l start
+  unfolding fileAfter greatest
+  start-held =
+      let laid : layout start ≡ take len b = file-laid (take len b) (bytes-take len b y) e in
+      let n : length (layout start) ≡ len = ap length laid ∙ length-take-le len b h in
+      (n, rw n (settled-front (layout start) len b (sym laid) h), record { valid = file-valid (take len b) (bytes-take len b y) e; low = omega arith; high = omega arith })
+
+  pub turns-claim : (m : ℕ) → turns m 0 b len l ≡ runOn m (firstRefused m 0 (length b) l start) b l start
+  unfolding fileAfter greatest
+  turns-claim m =
+      let s = start-held in
+      ap (λ (i : ℕ). turns m 0 b i l) (sym (s .0)) ∙ ap (λ (x : List ℕ). turns m 0 x (length (layout start)) l) (sym (s .1))
+      ∙ turns-are m 0 b l start m z (omega arith) (s .2)
+
+  -- The claim on a whole list
+  pub list-claim : length l % 96 ≡ 0 → runList b len l ≡ runOn (length l / 96) (firstRefused (length l / 96) 0 (length b) l start) b l start
+  list-claim w = list-run b len l w ∙ turns-claim (length l / 96)
 
 -- `firstRefused` is what its name says: it is at most the end, no reason holds before it, and one holds at it unless it is the end
 module _ (room : ℕ) (l : List ℕ) (f : File) where

@@ -2,7 +2,7 @@
 use Prim.Native.Nat.{ℕ, zero, suc, _*_, _/_, _%_}
 use mathlib.Core.Bool.{cond}
 use mathlib.Core.List.{List}
-use lib.ListN.{length}
+use lib.ListN.{length, take}
 use lib.Dec.{eqb}
 use Rattle.octets.specs.Parts.{part}
 use Rattle.answers.specs.declared.Answer.{Answer}
@@ -14,6 +14,10 @@ use Rattle.sff_correction.specs.Correct.{correctTest, correctOutcome, co
 -- "A list is records of 96 bytes, no header": the record at position k of the list l
 abbrev pub recordAt : ℕ → List ℕ → List ℕ
 recordAt k l = part (96 * k) 96 l
+
+-- its first k records
+abbrev pub firstRecords : ℕ → List ℕ → List ℕ
+firstRecords k l = take (96 * k) l
 
 -- what a run leaves: its answer and the buffer
 pub record Run : Type 0 where

@@ -216,8 +216,7 @@ module _ (b : List ℕ) (len : ℕ) (l : List ℕ) (y : Bytes b) (z : Bytes l) (
       pub reasons-in-turn : NoneHolds (reasonsAgainst (before k .buffer) (before k .outcome .length) (recordAt k l)) ↔ NoneHolds (reasonsInTurn (length b) k l file)
       reasons-in-turn =
           let p : parse (take (before k .outcome .length) (before k .buffer)) ≡ fileAfter k l file = rw file-in-turn (file-back (fileAfter k l file) valid-in-turn) in
-          let o : IsFile (take (before k .outcome .length) (before k .buffer)) = rw file-in-turn (fileAfter k l file, valid-in-turn, refl) in
-          (
+          let o : IsFile (take (before k .outcome .length) (before k .buffer)) = rw file-in-turn (fileAfter k l file, valid-in-turn, refl) in (
             (λ n. (n .1 .0, rw (room-in-turn, p) at (n .1 .1 .1))),
             (λ n. ((λ q. omega (arith, inside-in-turn, room-in-turn, q)), (n .0, ((λ q. q o), rw (room-in-turn, p) (n .1))))),
           )

@@ -1,181 +1,321 @@
--- The tender's demands 1 to 3, in its order and words: each a theorem over the entry points' definitions, for every input, and each proof cites the laws below it.
--- Beside a claim, "Code" names the functions that promise to answer and to leave what the definitions say, and "Shuts out" names wrong programs and the must-fail edits that show it: a/b is crates/a/must-fail/b.edit, a wrong program or a wrong
--- definition that the check refuses. `Bytes` says of a list of numbers that each is a byte, as every lent slice is. Assumes nothing.
-use Prim.Native.Nat.{ℕ, _/_, _≤_, _<_, max}
-use mathlib.Core.Path.{_≡_, ap}
+-- Condition C of the tender, "checked statements": "Rattle's checker accepts the following, for every input." Each of its
+-- sentences stands here word for word, in its order, and beside it a theorem over the entry points' definitions.
+-- "Code" names the functions that promise to answer and to leave what the definitions say. "Shuts out" names wrong
+-- programs, each with the must-fail edits that show it: a/b is crates/a/must-fail/b.edit, a wrong program or a wrong
+-- definition that the check refuses. `Bytes` says of a list of numbers that each is a byte, as in every lent slice.
+-- Assumes nothing.
+use Prim.Native.Nat.{ℕ, suc, _+_, _*_, _/_, _%_, _≤_, _<_, max}
+use native.Mathlib.Omega.{arith}
+use mathlib.Core.Path.{_≡_, refl, ap}
 use mathlib.Core.Bool.{false}
 use mathlib.Core.Logic.{_↔_}
-use mathlib.Core.List.{List}
-use lib.ListN.{length, take}
+use mathlib.Core.List.{List, [], _++_}
+use lib.ListN.{length, take, drop}
 use Rattle.octets.specs.Parts.{putAt, settled}
-use Rattle.octets.specs.Numbers.{Bytes}
+use Rattle.octets.specs.Numbers.{Bytes, bytesOf}
+use Rattle.octets.proofs.AllBytes.{bytes-part}
 use Rattle.answers.specs.declared.Answer.{Answer}
 use Rattle.answers.specs.declared.Answer.the-variants.{Accepted}
 use Rattle.answers.specs.Answer.{numberOf, Among}
 use Rattle.answers.specs.Reasons.{Reason, NoneHolds, FirstHolds}
-use Rattle.answers.proofs.Numbered.{zero-accepted}
+use Rattle.answers.proofs.Numbered.{zero-accepted, more-numbers}
 use Rattle.answers.proofs.Reasons.{one-first}
 use Rattle.sff_format.specs.Rules.{declared}
-use Rattle.sff_format.specs.Model.{File, noIndex, layout}
+use Rattle.sff_format.specs.Model.{Read, File, noIndex, layoutRead, layoutReads, layout}
 use Rattle.sff_format.specs.Valid.{Valid, IsFile}
-use Rattle.sff_format.specs.HeaderTest.{indexOffset, indexLength, flowCharacters, keyCharacters}
+use Rattle.sff_format.specs.HeaderTest.{indexOffset, indexLength, fileFlowCharacters, fileKey}
 use Rattle.sff_format.specs.FileTest.{fileTest}
 use Rattle.sff_format.specs.Parse.{parse}
+use Rattle.sff_format.specs.Places.{readAt, readPlace}
 use Rattle.sff_format.specs.Step.{readBack}
 use Rattle.sff_format.specs.Writing.{writeEach}
 use Rattle.sff_format.proofs.Format.{accepted, one-file}
 use Rattle.sff_format.proofs.Refusals.{file-zero}
 use Rattle.sff_format.proofs.Rewritten.{written-back, written-again}
-use Rattle.sff_correction.specs.Edit.{edited}
+use Rattle.sff_correction.specs.Record.{position}
+use Rattle.sff_correction.specs.Edit.{instead, edited}
 use Rattle.sff_correction.specs.InOrder.{reasonsAgainst}
 use Rattle.sff_correction.specs.Correct.{correctOutcome, correctBuffer}
-use Rattle.sff_correction.specs.ListRun.{runList}
-use Rattle.sff_correction.specs.ListModel.{reasonsInTurn, firstRefused, lastTried, listAfresh}
-use Rattle.sff_correction.proofs.Answered.{first-answered, carried-exactly, refused-left, carried-left, carried-valid, corrected-written}
-use Rattle.sff_correction.proofs.ListClaim.{every-list, stop-most, stop-before, stop-first, stop-refused}
+use Rattle.sff_correction.specs.ListRun.{recordAt, firstRecords, Run, ran, runList}
+use Rattle.sff_correction.specs.ListModel.{fileAfter, reasonsInTurn, listAfresh}
+use Rattle.sff_correction.proofs.Answered.{first-answered, carried-exactly, refused-left, carried-left, carried-valid, carried-kept, corrected-written}
+use Rattle.sff_correction.proofs.ListClaim.{every-list}
+use Rattle.sff_correction.proofs.InTurn.{count-most, none-of-carried, some-of-refused, first-of-refused, all-carried, on-in-turn, stop-in-turn, reasons-in-turn, bytes-in-turn, valid-in-turn, list-file, header-kept}
 use Rattle.filter_format.specs.Undo.{making, undoLayer}
 use Rattle.filter_format.specs.Encode.{encode}
+use Rattle.filter_format.specs.Rules.{EncodedByRule, DeltaOf}
 use Rattle.filter_format.specs.Samples.{encodeSamples, undoSamples}
 use Rattle.filter_format.proofs.Layers.{undo-after-encode}
 use Rattle.filter_format.proofs.Sampled.{undo-after-encode-samples}
+use Rattle.filter_format.proofs.ByRule.{encoded-by-rule, samples-by-rule}
 use Rattle.filter_format.proofs.Refusals.{encode-zero, encode-samples-zero}
-use Rattle.claims.specs.Calls.{Call, answerOf, numbersOf}
+use Rattle.claims.specs.Calls.{Call, Row, row, documentNumbers}
 use Rattle.claims.specs.Marked.{All, table}
-use Rattle.claims.proofs.Numbers.{call-numbers, never-zero}
+use Rattle.claims.proofs.Rows.{row-numbers, row-refused, none-is-zero}
 use Rattle.claims.proofs.MarkedCases.{marked}
 
--- DEMAND 1. "No input leads to undefined behaviour or an endless run. An entry point has no `requires`: it tests for itself and answers with a number of document 01's list, or has a companion call that does.
--- A refused correction changes no byte of the file's buffer."
--- The first sentence is what the check itself asks of every function: it accepts one only if, whatever it is given, it does nothing undefined and returns. The entry points are those of docs/API.md; none of them has a `requires`.
+-- DEMAND 1
 
--- "answers with a number of document 01's list": with 0, or with one that document 01 names for the call; 0 is the number of acceptance alone.
--- Code: each function of the table `Call`. Companions of calls that hand out something else: `sff_find::position_test` of `sff_insert::insert` and `insert_ends`, `sff_signal::signal_test` of `signal`, `sff_header::header_test` of `Reader::fresh`.
--- Shuts out: a call with a number of its own (sff_find/another_number, sff_format/number_of_its_own), a refusal with the number 0 (sff_format/refusal_with_0).
-pub answers-listed : (c : Call) → Among (numbersOf c) (answerOf c)
-answers-listed = call-numbers
+-- "No input leads to undefined behaviour or an endless run."
+-- This is no theorem of this file: it is what the check asks of every function before it accepts one. Whatever a
+-- function is given, it reads and writes inside what it is lent, no sum wraps, no cast loses bits, and it returns.
+-- A function with a `requires` is proved to be called only where that holds; no entry point has one (tests/names).
 
-pub accepted-at-0 : (c : Call) → (numberOf (answerOf c) ≡ 0) ↔ (answerOf c ≡ Accepted)
-accepted-at-0 c = (zero-accepted (numbersOf c) (never-zero c) (answerOf c) (call-numbers c), ap numberOf)
+-- "Each public entry point tests for itself and answers, or has a companion call that answers, with a number from
+-- document 01's list."
+-- The entry points are the table `Call`, the same list as in docs/API.md; a call with a companion has the companion's
+-- answer in its row. The exceptions, until text is measured, are the calls that put text into a lent buffer
+-- (docs/API.md, "Text and helpers"): they answer its length, and 0 without room.
+-- Code: each function of the table.
+-- Shuts out:
+--   a call with a number of its own (sff_find/another_number, sff_format/number_of_its_own)
+--   a refusal with the number 0 (sff_format/refusal_with_0)
+pub record Answers (r : Row) : Type 0 where
+  pub listed : Among documentNumbers (r .answer)
+  -- it is one that document 01 names for this call
+  pub own : Among (r .numbers) (r .answer)
+  -- and 0 is acceptance's alone
+  pub zero : (numberOf (r .answer) ≡ 0) ↔ (r .answer ≡ Accepted)
 
--- "A refused correction changes no byte of the file's buffer", and the length is "the length given".
+pub each-answers : (c : Call) → Answers (row c)
+each-answers c =
+    let n = row-numbers c in
+    let listed = more-numbers (row c .numbers) documentNumbers (n .1) (row c .answer) (n .0) in
+    record { listed = listed; own = n .0; zero = (zero-accepted documentNumbers none-is-zero (row c .answer) listed, ap numberOf) }
+
+-- "A refused correction changes no byte of the file's buffer;"
+-- The length is "the length given".
 -- Code: `sff_corrector::correct`, and `service::sffstore_correct` over it.
--- Shuts out: a corrector that writes though it refuses (sff_correction/written_though_refused), one that answers another length then (sff_correction/refused_length_is_0).
+-- Shuts out:
+--   a corrector that writes though it refuses (sff_correction/written_though_refused)
+--   one that answers another length then (sff_correction/refused_length_is_0)
 pub refused-unchanged : (buffer : List ℕ) (len : ℕ) (r : List ℕ) → (numberOf (correctOutcome buffer len r .answer) ≡ 0 → ⊥)
     → (correctOutcome buffer len r .length ≡ len) × (correctBuffer buffer len r ≡ buffer)
 refused-unchanged = refused-left
 
--- DEMAND 2. "A file is accepted exactly if it keeps the SFF rules as document 01 narrows them. Reads written and read back are the same; a file without index, read and written again, gives its own bytes. Each filter undoes its own encoding."
+-- "what other lent memory holds is stated there."
+-- After a refusal each buffer that a call was lent to write holds what document 01 says of it: the column `if-refused` of
+-- the table. A new file, an append, an encoding and SCF samples change nothing; a list leaves what its records before the
+-- refused one left; undoing zeroes both buffers.
+-- Code: `sff_writer::new_file`, `append`; `sff_corrector::correct`, `correct_list`; `filters::undo`, `undo_layer`;
+-- `filter_encode::encode`; `scf_samples::encode_samples`, `undo_samples`; `service::sffstore_correct`.
+-- Shuts out:
+--   a writer that writes before it judges (sff_writer/written_though_refused)
+--   a buffer that an undo leaves as it was (filters/second_left_on_refusal)
+--   an encoder that writes though it refuses (filter_encode/written_though_refused)
+pub memory-after-refusal : (c : Call) → (numberOf (row c .answer) ≡ 0 → ⊥) → row c .memory ≡ row c .if-refused
+memory-after-refusal = row-refused
 
--- "A file is accepted exactly if it keeps the SFF rules": if it is, byte for byte, some file that keeps them (`Valid`), written afresh (`layout`); and it is then that one alone.
+-- DEMAND 2
+
+-- "A file is accepted exactly if it keeps the SFF rules as document 01 narrows them."
+-- It is, byte for byte, some file that keeps them (`Valid`), written afresh (`layout`).
 -- Code: `sff::file_test`, and `service::sffstore_test` over it.
--- Shuts out: a test that refuses everything (sff/refuses_everything), one that accepts everything (sff/accepts_everything), and so each that gives one answer throughout; bytes left over (sff/leftover_bytes), padding that is
--- not tested (sff_header/padding_not_tested), a base that is not the flow's (sff_walk/any_base).
+-- Shuts out:
+--   a test that refuses everything (sff/refuses_everything)
+--   one that accepts everything (sff/accepts_everything), and so each that gives one answer throughout
+--   bytes left over (sff/leftover_bytes)
+--   padding that is not tested (sff_header/padding_not_tested)
+--   a base that is not the flow's (sff_walk/any_base)
 pub accepted-exactly : (b : List ℕ) → (Bytes b × (numberOf (fileTest b) ≡ 0)) ↔ IsFile b
 accepted-exactly b = ((λ t. accepted b .0 (t .0, file-zero b (t .1))), (λ t. (accepted b .1 t .0, ap numberOf (accepted b .1 t .1))))
 
+-- and it is then that one alone
 pub one-meaning : (f g : File) → Valid f → Valid g → layout f ≡ layout g → f ≡ g
 one-meaning = one-file
 
--- "Reads written and read back are the same": of a new file and an append for each read (`writeEach`), in any buffer that holds them, the reader gives (`readBack`) the reads that were written.
+-- "Reads written and read back come back the same,"
+-- Of a new file and an append for each read (`writeEach`), in any buffer that holds them, the reader gives (`readBack`)
+-- the reads that were written.
 -- Code: `sff_writer::new_file` and `append`; `Reader::fresh` and `step`, and the accessors of `sff_view`.
--- Shuts out: a writer that does not count (sff_writer/count_not_raised, sff_format/appended_not_counted), that lays parts out in another order (sff_sections/qualities_before_bases, sff_sections/clips_changed_about), a reader that stays or leaps
--- (sff_format/step_stays, sff_reader/step_past_two), an accessor that hands out another part (sff_view/bases_are_increments).
+-- Shuts out:
+--   a writer that does not count (sff_writer/count_not_raised, sff_format/appended_not_counted)
+--   one that lays parts out in another order (sff_sections/qualities_before_bases, sff_sections/clips_changed_about)
+--   a reader that stays or leaps (sff_format/step_stays, sff_reader/step_past_two)
+--   an accessor that hands out another part (sff_view/bases_are_increments)
 pub written-and-read-back : (f : File) → f .index ≡ noIndex → Valid f → (buffer : List ℕ) → length (layout f) ≤ length buffer
     → readBack (take (writeEach buffer f .outcome .length) (writeEach buffer f .buffer)) ≡ f .reads
 written-and-read-back = written-back
 
--- "a file without index, read and written again, gives its own bytes": its characters from the header, its reads from the reader, in any buffer that holds it, whose other bytes stay.
--- Code: as above, and `sff_header`'s fields.
--- Shuts out: padding that is not zero (sff_sections/padding_not_zero), names without padding (sff_format/names_unpadded), the key before the flow characters (sff_sections/key_first, sff_format/key_first), another format code (sff_sections/format_code_0).
+-- "and a file without an index, read and written again, gives its own bytes."
+-- Its characters and its reads as the calls hand them out, written into any buffer that holds them, whose other bytes stay.
+-- Code: `sff_header::flow_characters` and `key`; `Reader::fresh` and `step`, and the accessors of `sff_view`;
+-- `sff_writer::new_file` and `append`.
+-- Shuts out:
+--   padding that is not zero (sff_sections/padding_not_zero)
+--   names without padding (sff_format/names_unpadded)
+--   the key before the flow characters (sff_sections/key_first, sff_format/key_first)
+--   another format code (sff_sections/format_code_0)
 pub read-and-written-again : (b : List ℕ) → Bytes b → fileTest b ≡ Accepted → declared (indexOffset b) (indexLength b) ≡ false → (buffer : List ℕ) → length b ≤ length buffer
-    → writeEach buffer (record { flow-characters = flowCharacters b; key = keyCharacters b; index = noIndex; reads = readBack b })
+    → writeEach buffer (record { flow-characters = fileFlowCharacters b; key = fileKey b; index = noIndex; reads = readBack b })
     ≡ record { outcome = record { answer = Accepted; length = length b }; buffer = putAt 0 b buffer }
 read-and-written-again = written-again
 
--- "Each filter undoes its own encoding", for every format, level and table that encoding accepts, and for SCF samples of either precision, wherever the data fit.
+-- "Each sample filter undoes its own encoding as the ZTR and SCF rules define it."
 -- Code: `filter_encode::encode`, `filters::undo_layer`; `scf_samples::encode_samples` and `undo_samples`.
--- Shuts out: -128 in one byte (filter_narrow/minus_128_in_one_byte, filter_format/minus_128_in_one_byte), the stored byte remembered (filter_follow/stored_byte_remembered, filter_format/stored_byte_remembered), a level that is left
--- (filter_delta/last_level_left, filter_format/no_level_undone), a difference the other way (filter_delta/difference_the_other_way, filter_format/difference_the_other_way), samples at one level (scf_samples/one_level_only).
-pub filter-undoes-encoding : (room room' format level : ℕ) (follow s : List ℕ) → Bytes s → Bytes follow → numberOf (encode room format level follow s .answer) ≡ 0 → length s ≤ room'
-    → undoLayer room' (encode room format level follow s .bytes) ≡ making s
-filter-undoes-encoding room room' format level follow s y z carried fits = undo-after-encode room room' format level follow s y z (encode-zero room format level follow s carried) fits
+-- Shuts out:
+--   -128 in one byte (filter_narrow/minus_128_in_one_byte, filter_format/minus_128_in_one_byte)
+--   the stored byte remembered (filter_follow/stored_byte_remembered, filter_format/stored_byte_remembered)
+--   a level that is left (filter_delta/last_level_left, filter_format/no_level_undone)
+--   a difference the other way (filter_delta/difference_the_other_way, filter_format/difference_the_other_way)
+--   samples at one level (scf_samples/one_level_only)
+pub record EachFilter : Type 0 where
+  -- "undoes its own encoding": for every format, level and follow bytes that encoding accepts, wherever the data fit
+  pub undone : (room room' format level : ℕ) (follow s : List ℕ) → Bytes s → Bytes follow → numberOf (encode room format level follow s .answer) ≡ 0 → length s ≤ room'
+      → undoLayer room' (encode room format level follow s .bytes) ≡ making s
+  -- and for SCF samples of either precision
+  pub samples-undone : (room room' precision : ℕ) (s : List ℕ) → Bytes s → numberOf (encodeSamples room precision s .answer) ≡ 0 → length s ≤ room'
+      → undoSamples room' precision (encodeSamples room precision s .bytes) ≡ making s
+  -- "as the ZTR and SCF rules define it": what encoding gives is what these ask, unit by unit
+  pub by-ztr : (room level : ℕ) (follow s : List ℕ) → Bytes s → Bytes follow → EncodedByRule room level follow s
+  pub by-scf : (room precision : ℕ) (s : List ℕ) → Bytes s → numberOf (encodeSamples room precision s .answer) ≡ 0
+      → DeltaOf [] precision 2 s (encodeSamples room precision s .bytes)
 
-pub samples-undo-encoding : (room room' precision : ℕ) (s : List ℕ) → Bytes s → length s ≤ room' → numberOf (encodeSamples room precision s .answer) ≡ 0
-    → undoSamples room' precision (encodeSamples room precision s .bytes) ≡ making s
-samples-undo-encoding room room' precision s y fits carried = undo-after-encode-samples room room' precision s y fits (encode-samples-zero room precision s carried)
+pub each-filter : EachFilter
+each-filter = record {
+  undone = λ room room' format level follow s y z carried fits. undo-after-encode room room' format level follow s y z (encode-zero room format level follow s carried) fits;
+  samples-undone = λ room room' precision s y carried fits. undo-after-encode-samples room room' precision s y fits (encode-samples-zero room precision s carried);
+  by-ztr = encoded-by-rule;
+  by-scf = samples-by-rule;
+}
 
--- DEMAND 3. "Whatever bytes are lent as file and record and whatever length is stated: carried out with 0 exactly when no reason to refuse holds, else the first that holds in document 01's order; the result is byte for byte what writing
--- afresh gives. For every list of whole records: one claim on the whole answer and the whole buffer."
+-- DEMAND 3
 
--- One record. The reasons in document 01's order are the table `reasonsAgainst`; the file afresh is `edited`, laid out.
+-- One record, on any buffer with any length stated. The reasons in document 01's order are the table `reasonsAgainst`; f is
+-- what the file says, and `new` that with the record carried out.
 -- Code: `sff_corrector::correct`, and `service::sffstore_correct` over it.
--- Shuts out: a corrector that writes nothing (sff_correction/writes_nothing, sff_edit/clips_not_written, sff_edit/old_name_written), one that refuses everything (sff_corrector/refuses_everything), that compares the position alone (sff_correction/position_alone), that asks
--- in another order (sff_correction/index_before_name), that overwrites reads not yet moved (splice/low_end_first), that leaves what is freed (splice/freed_bytes_left), that still counts a read taken out (sff_edit/count_not_lowered).
-pub record OneRecord (buffer : List ℕ) (len : ℕ) (r : List ℕ) : Type 0 where
-  -- "carried out with 0 exactly when no reason to refuse holds"
+-- Shuts out:
+--   a corrector that writes nothing (sff_correction/writes_nothing, sff_edit/clips_not_written, sff_edit/old_name_written)
+--   one that refuses everything (sff_corrector/refuses_everything)
+--   one that compares the position alone (sff_correction/position_alone)
+--   one that asks in another order (sff_correction/index_before_name)
+--   one that overwrites reads not yet moved (splice/low_end_first)
+--   one that leaves what is freed (splice/freed_bytes_left)
+--   one that still counts a read taken out (sff_edit/count_not_lowered)
+pub record OneRecordOn (buffer : List ℕ) (len : ℕ) (r : List ℕ) (f new : File) : Type 0 where
+  -- "Whatever bytes are lent as the file and as a correction record, and whatever file length is stated, the correction is
+  -- carried out, with number 0, exactly when none of document 01's reasons to refuse holds."
   pub carried-out : (numberOf (correctOutcome buffer len r .answer) ≡ 0) ↔ NoneHolds (reasonsAgainst buffer len r)
-  -- "else the first that holds in document 01's order"
+  -- "Otherwise it answers the first that holds, in document 01's order."
   pub else-first : FirstHolds (reasonsAgainst buffer len r) (correctOutcome buffer len r .answer)
   -- with another number than 0: the length given, and every byte as it was
   pub refused : (numberOf (correctOutcome buffer len r .answer) ≡ 0 → ⊥) → (correctOutcome buffer len r .length ≡ len) × (correctBuffer buffer len r ≡ buffer)
-  -- "the result is byte for byte what writing afresh gives": the same characters, index and reads with that one changed or left out; then zeros up to the longer of both lengths, and the rest as it was
+  -- "Once carried out, the file is, byte for byte, what writing afresh gives": `new`, laid out; then zeros up to the longer
+  -- of both lengths, and the rest of the buffer as it was
   pub afresh : numberOf (correctOutcome buffer len r .answer) ≡ 0
-      → (correctOutcome buffer len r .length ≡ length (layout (edited r (parse (take len buffer)))))
-      × (correctBuffer buffer len r ≡ settled (layout (edited r (parse (take len buffer)))) (max len (length (layout (edited r (parse (take len buffer)))))) buffer)
+      → (correctOutcome buffer len r .length ≡ length (layout new)) × (correctBuffer buffer len r ≡ settled (layout new) (max len (length (layout new))) buffer)
+  -- "from the same header, any index, and the same reads with that one read changed or left out."
+  pub same-header : (new .flow-characters ≡ f .flow-characters) × (new .key ≡ f .key) × (new .index ≡ f .index)
+  pub same-reads : new .reads ≡ take (position r) (f .reads) ++ instead r (readAt f (position r)) ++ drop (suc (position r)) (f .reads)
+  -- "Every other read's sections keep their bytes and their order.": so does all that stands before that read and after it,
+  -- but for the count at 20
+  pub others-kept : numberOf (correctOutcome buffer len r .answer) ≡ 0
+      → take (correctOutcome buffer len r .length) (correctBuffer buffer len r)
+      ≡ putAt 20 (bytesOf 4 (length (new .reads)))
+      (
+      take (readPlace (take len buffer) (position r)) (take len buffer)
+      ++ (layoutReads (instead r (readAt f (position r))) ++ drop (readPlace (take len buffer) (position r) + length (layoutRead (readAt f (position r)))) (take len buffer))
+      )
   -- and that file keeps the rules
-  pub valid : numberOf (correctOutcome buffer len r .answer) ≡ 0 → Valid (edited r (parse (take len buffer)))
+  pub valid : numberOf (correctOutcome buffer len r .answer) ≡ 0 → Valid new
+
+abbrev pub OneRecord : List ℕ → ℕ → List ℕ → Type 0
+OneRecord buffer len r = OneRecordOn buffer len r (parse (take len buffer)) (edited r (parse (take len buffer)))
 
 pub one-record : (buffer : List ℕ) (len : ℕ) (r : List ℕ) → Bytes buffer → Bytes r → OneRecord buffer len r
+unfolding edited
 one-record buffer len r y z = record {
   carried-out = carried-exactly buffer len r y z;
   else-first = first-answered buffer len r y z;
   refused = refused-left buffer len r;
   afresh = carried-left buffer len r y z;
+  same-header = (refl, refl, refl);
+  same-reads = refl;
+  others-kept = carried-kept buffer len r y z;
   valid = carried-valid buffer len r y z;
 }
 
--- and `FirstHolds` leaves no choice: one answer alone is that of the first reason that holds
+-- `FirstHolds` leaves no choice: one answer alone is that of the first reason that holds
 pub one-answer : (qs : List Reason) (a b : Answer) → FirstHolds qs a → FirstHolds qs b → a ≡ b
 one-answer = one-first
 
--- So a file without index that is corrected in place is the one that a new file and an append for each of its reads, with that one changed or left out, leave in any buffer that holds it.
+-- "what writing afresh gives": a file without index that is corrected in place is the one that a new file and an append for
+-- each of its reads, with that one changed or left out, leave in any buffer that holds it.
 -- Code: `sff_corrector::correct`; `sff_writer::new_file` and `append`.
--- Shuts out: a corrector and a writer that lay a read out each in its own way (sff_edit/name_length_not_written, sff_sections/name_for_the_bases).
+-- Shuts out:
+--   a corrector and a writer that lay a read out each in its own way (sff_edit/name_length_not_written,
+--   sff_sections/name_for_the_bases)
 pub in-place-is-afresh : (buffer : List ℕ) (len : ℕ) (r : List ℕ) → Bytes buffer → Bytes r → numberOf (correctOutcome buffer len r .answer) ≡ 0 → parse (take len buffer) .index ≡ noIndex
     → (other : List ℕ) → length (layout (edited r (parse (take len buffer)))) ≤ length other
     → writeEach other (edited r (parse (take len buffer)))
     ≡ record { outcome = correctOutcome buffer len r; buffer = putAt 0 (take (correctOutcome buffer len r .length) (correctBuffer buffer len r)) other }
 in-place-is-afresh = corrected-written
 
--- Every list. On an accepted file those carried out are the records before the first for which a reason holds in its turn, or all of them; the file is written afresh from the reads as these have left them, behind it zeros up to the greatest length that it
--- had, then the buffer as it was. `listAfresh` says this, and what a list comes to that is not whole or is empty, and what stops one before its first record's own reasons.
+-- Every list, in one claim: f is what the file says, `all` how many records there are, `count` the count that is answered,
+-- and `before k` what a list of the first k records leaves.
 -- Code: `sff_corrector::correct_list`.
--- Shuts out: a list run that does its first record only (sff_corrector/first_record_only, sff_correction/first_record_only), one with an invented count (sff_corrector/invented_count, sff_correction/invented_count), one that goes on from a place where no
--- read starts (sff_corrector/mark_elsewhere).
-pub record EveryList (buffer : List ℕ) (len : ℕ) (l : List ℕ) (f : File) (all count : ℕ) : Type 0 where
-  -- "one claim on the whole answer and the whole buffer"
-  pub afresh : runList buffer len l ≡ listAfresh buffer len l
-  -- of the records carried out, no reason holds in its turn
-  pub carried-out : (j : ℕ) → j < count → NoneHolds (reasonsInTurn (length buffer) j l f)
-  -- the next, if there is one, is refused, for the first reason that holds in its turn
-  pub most : count ≤ all
+-- Shuts out:
+--   a list run that does its first record only (sff_corrector/first_record_only, sff_correction/first_record_only)
+--   one with an invented count (sff_corrector/invented_count, sff_correction/invented_count)
+--   one that goes on from a place where no read starts (sff_corrector/mark_elsewhere)
+pub record WholeList (buffer : List ℕ) (len : ℕ) (l : List ℕ) (f : File) (all count : ℕ) (before : ℕ → Run) : Type 0 where
+  -- "For every list of whole records, run on any accepted file, those carried out are exactly the ones before the first for
+  -- which a reason to refuse holds in its turn,"
+  pub carried-out : (k : ℕ) → k < count → NoneHolds (reasonsInTurn (length buffer) k l f)
   pub refused : count < all → NoneHolds (reasonsInTurn (length buffer) count l f) → ⊥
-  pub else-first : count < all → FirstHolds (reasonsInTurn (length buffer) count l f) (lastTried all count (length buffer) l f)
+  pub else-first : count < all → FirstHolds (reasonsInTurn (length buffer) count l f) (runList buffer len l .outcome .answer)
+  -- "or all if there is none; the count is how many they are."
+  pub most : count ≤ all
+  pub all-of-them : count ≡ all → runList buffer len l .outcome .answer ≡ Accepted
+  -- "in its turn": each record runs on the buffer and length that those before it left; the first refusal ends the list
+  pub next : (k : ℕ) → k < count
+      → before (suc k) ≡ ran (suc k) Accepted (correctOutcome (before k .buffer) (before k .outcome .length) (recordAt k l) .length) (correctBuffer (before k .buffer) (before k .outcome .length) (recordAt k l))
+  pub last : count < all
+      → runList buffer len l ≡ ran count (correctOutcome (before count .buffer) (before count .outcome .length) (recordAt count l) .answer) (before count .outcome .length) (before count .buffer)
+  -- document 01: "Demand 3 holds of each record in its turn"
+  pub each : (k : ℕ) → k ≤ count → k < all → OneRecord (before k .buffer) (before k .outcome .length) (recordAt k l)
+  -- of its reasons 14 and the file's refusal never hold then, which is why `reasonsInTurn` has the others alone
+  pub reasons : (k : ℕ) → k ≤ count → NoneHolds (reasonsAgainst (before k .buffer) (before k .outcome .length) (recordAt k l)) ↔ NoneHolds (reasonsInTurn (length buffer) k l f)
+  -- "The file is then what writing afresh gives from its header, any index, and the reads as these records, one after the
+  -- other, have left them."
+  pub file : take (runList buffer len l .outcome .length) (runList buffer len l .buffer) ≡ layout (fileAfter count l f)
+  pub same-header : (fileAfter count l f .flow-characters ≡ f .flow-characters) × (fileAfter count l f .key ≡ f .key) × (fileAfter count l f .index ≡ f .index)
+  -- and it keeps the rules
+  pub valid : Valid (fileAfter count l f)
 
-pub list-corrected : (buffer : List ℕ) (len : ℕ) (l : List ℕ) → Bytes buffer → Bytes l
-    → EveryList buffer len l (parse (take len buffer)) (length l / 96) (firstRefused (length l / 96) 0 (length buffer) l (parse (take len buffer)))
-list-corrected buffer len l y z =
-    let f = parse (take len buffer) in
-    let all = length l / 96 in
-    record {
-      afresh = every-list buffer len l y z;
-      carried-out = stop-before (length buffer) l f all z;
-      most = stop-most (length buffer) l f all z;
-      refused = stop-refused (length buffer) l f all z;
-      else-first = stop-first (length buffer) l f all z;
-    }
+pub record EveryList (buffer : List ℕ) (len : ℕ) (l : List ℕ) : Type 0 where
+  -- on any buffer with any length stated, document 01's "single claim over every list, on the whole answer and the whole
+  -- buffer": `listAfresh` says what is answered and left, also for a list that is not whole or is empty, and for a file that
+  -- is refused
+  pub whole : runList buffer len l ≡ listAfresh buffer len l
+  -- whole records on an accepted file
+  pub on-file : len ≤ length buffer → fileTest (take len buffer) ≡ Accepted → length l % 96 ≡ 0
+      → WholeList buffer len l (parse (take len buffer)) (length l / 96) (runList buffer len l .outcome .count) (λ k. runList buffer len (firstRecords k l))
 
--- THE MARKED CASES of document 01, "one table under one statement": every row of `table` holds, computed from the definitions.
--- Shuts out: a clip of 4 on 3 bases accepted (claims/clip_above_bases), another place for a header cut short (claims/another_place), freed bytes left (claims/freed_bytes_left).
+pub list-corrected : (buffer : List ℕ) (len : ℕ) (l : List ℕ) → Bytes buffer → Bytes l → EveryList buffer len l
+list-corrected buffer len l y z = record {
+  whole = every-list buffer len l y z;
+  on-file = λ h e w. record {
+    carried-out = none-of-carried buffer len l y z h e w;
+    refused = some-of-refused buffer len l y z h e w;
+    else-first = first-of-refused buffer len l y z h e w;
+    most = count-most buffer len l y z h e w;
+    all-of-them = all-carried buffer len l y z h e w;
+    next = on-in-turn buffer len l y z h e w;
+    last = stop-in-turn buffer len l y z h e w;
+    each = λ k i j. one-record _ _ (recordAt k l) (bytes-in-turn buffer len l y z h e w k i) (bytes-part (96 * k) 96 l z);
+    reasons = reasons-in-turn buffer len l y z h e w;
+    file = list-file buffer len l y z h e w;
+    same-header = header-kept (runList buffer len l .outcome .count) l (parse (take len buffer));
+    valid = valid-in-turn buffer len l y z h e w (runList buffer len l .outcome .count) (omega arith);
+  };
+}
+
+-- THE MARKED CASES of document 01, "one table under one statement": every row of `table` holds, computed from the
+-- definitions.
+-- Shuts out:
+--   a clip of 4 on 3 bases accepted (claims/clip_above_bases)
+--   another place for a header cut short (claims/another_place)
+--   freed bytes left (claims/freed_bytes_left)
 pub marked-cases : All table
 marked-cases = marked

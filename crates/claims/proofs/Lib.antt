@@ -2,4 +2,4 @@
 pub mod Demands
 pub mod Scope
 pub mod MarkedCases
-pub mod Numbers
+pub mod Rows

@@ -1,10 +1,10 @@
 -- The numbers that each call may answer with; and so "Every answer has a number (0 accepted)": 0 is acceptance's alone. Assumes nothing.
 use Prim.Native.Nat.{ℕ, zero, suc}
 use mathlib.Core.Path.{_≡_, refl}
-use mathlib.Core.Bool.{cond}
-use mathlib.Core.List.{List}
+use mathlib.Core.Bool.{Bool, true, false, cond}
+use mathlib.Core.List.{List, []}
 use Rattle.answers.specs.declared.Answer.{Answer}
-use Rattle.answers.specs.declared.Answer.the-variants.{Accepted}
+use Rattle.answers.specs.declared.Answer.the-variants.{Accepted, Refused}
 use Rattle.answers.specs.Answer.{numberOf, acceptedOr, among, Among}
 use Rattle.answers.proofs.Answers.{cond-keeps, either-keeps}
 use Rattle.answers.proofs.Numbered.{zero-accepted, then-refusing, when-refusing, more-numbers}
@@ -14,6 +14,7 @@ use Rattle.filter_format.specs.Undo.{Result, making, refusing, blockTest
 use Rattle.filter_format.specs.Encode.{encodeTest, encoded, encode}
 use Rattle.filter_format.specs.Delta.{deltaBytes, undeltaBytes}
 use Rattle.filter_format.specs.Samples.{samplesTest, encodeSamples, undoSamples}
+use Rattle.filter_format.proofs.Results.{tested-none}
 use Rattle.filter_format.specs.Numbers.{undoNumbers, layerNumbers, encodeNumbers, samplesNumbers}
 
 contents-numbers : (f : Filter) (room : ℕ) (b : List ℕ) → Among layerNumbers (contentsTest f room b)
@@ -94,3 +95,36 @@ encode-samples-zero room precision s e = zero-accepted samplesNumbers refl (enco
 pub undo-samples-zero : (room precision : ℕ) (s : List ℕ) → numberOf (undoSamples room precision s .answer) ≡ 0 → undoSamples room precision s .answer ≡ Accepted
 unfolding among
 undo-samples-zero room precision s e = zero-accepted samplesNumbers refl (undoSamples room precision s .answer) (undo-samples-numbers room precision s) e
+
+-- a refusal makes no bytes
+from-none : (left room : ℕ) (b : List ℕ) → (numberOf (undoFrom left room b .answer) ≡ 0 → ⊥) → undoFrom left room b .bytes ≡ []
+unfolding undoFrom acceptedOr
+from-none zero room b h = tested-none (blockTest 0 room b) (undone (filterAt b) b) h
+from-none (suc left) room b h = go (blockTest (suc left) room b) (isRaw (filterAt b)) h (from-none left room (undone (filterAt b) b))
+  where
+    go : (a : Answer) (t : Bool)
+        → (numberOf (acceptedOr a (cond t (making (undone (filterAt b) b)) (undoFrom left room (undone (filterAt b) b))) (refusing a) .answer) ≡ 0 → ⊥)
+        → ((numberOf (undoFrom left room (undone (filterAt b) b) .answer) ≡ 0 → ⊥) → undoFrom left room (undone (filterAt b) b) .bytes ≡ [])
+        → acceptedOr a (cond t (making (undone (filterAt b) b)) (undoFrom left room (undone (filterAt b) b))) (refusing a) .bytes ≡ []
+    go Accepted true k ih = absurd (k refl)
+    go Accepted false k ih = ih k
+    go (Refused n p) t k ih = refl
+
+pub undo-none : (room : ℕ) (b : List ℕ) → (numberOf (undo room b .answer) ≡ 0 → ⊥) → undo room b .bytes ≡ []
+undo-none room b h = from-none mostFilters room b h
+
+pub layer-none : (room : ℕ) (b : List ℕ) → (numberOf (undoLayer room b .answer) ≡ 0 → ⊥) → undoLayer room b .bytes ≡ []
+unfolding undoLayer
+layer-none room b h = tested-none (layerTest room b) (undone (filterAt b) b) h
+
+pub encode-none : (room format level : ℕ) (follow s : List ℕ) → (numberOf (encode room format level follow s .answer) ≡ 0 → ⊥) → encode room format level follow s .bytes ≡ []
+unfolding encode
+encode-none room format level follow s h = tested-none (encodeTest room format level follow s) (encoded format level follow s) h
+
+pub encode-samples-none : (room precision : ℕ) (s : List ℕ) → (numberOf (encodeSamples room precision s .answer) ≡ 0 → ⊥) → encodeSamples room precision s .bytes ≡ []
+unfolding encodeSamples
+encode-samples-none room precision s h = tested-none (samplesTest room precision s) (deltaBytes precision 2 s) h
+
+pub undo-samples-none : (room precision : ℕ) (s : List ℕ) → (numberOf (undoSamples room precision s .answer) ≡ 0 → ⊥) → undoSamples room precision s .bytes ≡ []
+unfolding undoSamples
+undo-samples-none room precision s h = tested-none (samplesTest room precision s) (undeltaBytes precision 2 s) h

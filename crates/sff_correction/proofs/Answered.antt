@@ -1,28 +1,31 @@
 -- One correction by its number: 0 exactly if no reason holds; what is left with 0, and with any other. Assumes nothing.
-use Prim.Native.Nat.{ℕ, _≤_}
+use Prim.Native.Nat.{ℕ, _+_, _≤_}
 use mathlib.Core.Path.{_≡_, refl, sym, ap, _∙_}
 use mathlib.Core.Logic.{_↔_}
-use mathlib.Core.List.{List}
-use lib.ListN.{length, take}
+use mathlib.Core.List.{List, _++_}
+use lib.ListN.{length, take, drop}
 use Rattle.octets.specs.Parts.{putAt}
-use Rattle.octets.specs.Numbers.{Bytes}
+use Rattle.octets.specs.Numbers.{Bytes, bytesOf}
 use Rattle.octets.proofs.AllBytes.{bytes-take}
 use Rattle.answers.specs.declared.Answer.{Answer}
 use Rattle.answers.specs.declared.Answer.the-variants.{Accepted, Refused}
 use Rattle.answers.specs.Answer.{numberOf, Among}
 use Rattle.answers.specs.Reasons.{NoneHolds, FirstHolds}
 use Rattle.answers.proofs.Reasons.{none-accepted}
-use Rattle.sff_format.specs.Model.{noIndex}
+use Rattle.sff_format.specs.Model.{noIndex, layoutRead, layoutReads}
 use Rattle.sff_format.specs.Valid.{Valid}
 use Rattle.sff_format.specs.Writing.{writeEach}
 use Rattle.sff_format.proofs.Writers.{write-each}
 use Rattle.sff_format.specs.Parse.{parse}
-use Rattle.sff_correction.specs.Edit.{edited}
+use Rattle.sff_format.specs.Places.{readPlace}
+use Rattle.sff_correction.specs.Record.{position}
+use Rattle.sff_correction.specs.Edit.{instead, target, edited}
 use Rattle.sff_correction.specs.InOrder.{reasonsAgainst}
 use Rattle.sff_correction.specs.Numbers.{correctNumbers}
 use Rattle.sff_correction.specs.Correct.{correctTest, corrected, correctOutcome, over, correctBuffer}
 use Rattle.sff_correction.proofs.InOrder.{correct-judged, correct-numbers, correct-zero}
-use Rattle.sff_correction.proofs.Carried.{refused-outcome, refused-buffer, done-outcome, done-buffer, done-valid, done-front}
+use Rattle.sff_correction.proofs.EditedBytes.{sections-kept}
+use Rattle.sff_correction.proofs.Carried.{test-file, test-record, test-reasons, refused-outcome, refused-buffer, done-outcome, done-buffer, done-valid, done-front}
 
 module _ (buffer : List ℕ) (len : ℕ) (r : List ℕ) where
   -- the answer is that of the tests in order
@@ -59,6 +62,18 @@ module _ (buffer : List ℕ) (len : ℕ) (r : List ℕ) where
 
       pub carried-valid : Valid (edited r (parse (take len buffer)))
       carried-valid = done-valid buffer len r (outcome-zero e) (bytes-take len buffer y) z
+
+      -- what stands before that read and after it keeps every byte but the count at 20
+      pub carried-kept : take (correctOutcome buffer len r .length) (correctBuffer buffer len r)
+          ≡ putAt 20 (bytesOf 4 (length (edited r (parse (take len buffer)) .reads)))
+          (
+          take (readPlace (take len buffer) (position r)) (take len buffer)
+          ++ (layoutReads (instead r (target r (parse (take len buffer)))) ++ drop (readPlace (take len buffer) (position r) + length (layoutRead (target r (parse (take len buffer))))) (take len buffer))
+          )
+      carried-kept =
+          let t = outcome-zero e in
+          rw (done-outcome buffer len r t, done-buffer buffer len r t, done-front buffer len r t)
+          (sections-kept (length buffer) r (take len buffer) (bytes-take len buffer y) (test-file buffer len r t) (test-record buffer len r t) z (test-reasons buffer len r t))
 
       -- the writers leave the same bytes
       pub corrected-written : parse (take len buffer) .index ≡ noIndex → (other : List ℕ) → length (corrected buffer len r) ≤ length other

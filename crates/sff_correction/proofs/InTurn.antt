@@ -115,6 +115,12 @@ module _ (k : ℕ) (b l : List ℕ) (f : File) (s : Held k b l f) where
         done-buffer there size (recordAt k l) (held-test 0 k b l f s ∙ e)
         ∙ rw (held-new 0 k b l f s, settled-again (layout (fileAfter (suc k) l f)) (layout (fileAfter k l f)) (greatest k l f) b (s .low))
 
+-- records keep the header's characters and any index
+pub header-kept : (k : ℕ) (l : List ℕ) (f : File) → (fileAfter k l f .flow-characters ≡ f .flow-characters) × (fileAfter k l f .key ≡ f .key) × (fileAfter k l f .index ≡ f .index)
+unfolding fileAfter edited
+header-kept zero l f = (refl, refl, refl)
+header-kept (suc k) l f = header-kept k l f
+
 -- what the model's file leaves are bytes
 bytes-laid : (f : File) → Valid f → Bytes (layout f)
 bytes-laid f v = accepted (layout f) .1 (f, v, refl) .0
@@ -235,3 +241,7 @@ module _ (b : List ℕ) (len : ℕ) (l : List ℕ) (y : Bytes b) (z : Bytes l) (
     stop-in-turn i =
         let s = held count (omega arith) in
         run-is ∙ rw (sym count-is, lt-ltb count all i, here count (omega arith), held-answer count b l file s)
+
+    -- the file that the list leaves
+    pub list-file : take (runList b len l .outcome .length) (runList b len l .buffer) ≡ layout (fileAfter count l file)
+    list-file = rw (run-leaves .0, run-leaves .1) (file-in-turn count (omega arith))

@@ -18,7 +18,7 @@ use Rattle.answers.proofs.Reasons.{one-first}
 use Rattle.sff_format.specs.Rules.{declared}
 use Rattle.sff_format.specs.Model.{File, noIndex, layout}
 use Rattle.sff_format.specs.Valid.{Valid, IsFile}
-use Rattle.sff_format.specs.HeaderTest.{indexOffset, indexLength, flowCharacters, keyCharacters}
+use Rattle.sff_format.specs.HeaderTest.{indexOffset, indexLength, fileFlowCharacters, fileKey}
 use Rattle.sff_format.specs.FileTest.{fileTest}
 use Rattle.sff_format.specs.Parse.{parse}
 use Rattle.sff_format.specs.Step.{readBack}
@@ -85,10 +85,10 @@ pub written-and-read-back : (f : File) → f .index ≡ noIndex → Valid f → 
 written-and-read-back = written-back
 
 -- "a file without index, read and written again, gives its own bytes": its characters from the header, its reads from the reader, in any buffer that holds it, whose other bytes stay.
--- Code: as above, and `sff_header`'s fields.
+-- Code: `sff_header::flow_characters` and `key`; `Reader::fresh` and `step`, and the accessors of `sff_view`; `sff_writer::new_file` and `append`.
 -- Shuts out: padding that is not zero (sff_sections/padding_not_zero), names without padding (sff_format/names_unpadded), the key before the flow characters (sff_sections/key_first, sff_format/key_first), another format code (sff_sections/format_code_0).
 pub read-and-written-again : (b : List ℕ) → Bytes b → fileTest b ≡ Accepted → declared (indexOffset b) (indexLength b) ≡ false → (buffer : List ℕ) → length b ≤ length buffer
-    → writeEach buffer (record { flow-characters = flowCharacters b; key = keyCharacters b; index = noIndex; reads = readBack b })
+    → writeEach buffer (record { flow-characters = fileFlowCharacters b; key = fileKey b; index = noIndex; reads = readBack b })
     ≡ record { outcome = record { answer = Accepted; length = length b }; buffer = putAt 0 b buffer }
 read-and-written-again = written-again
 

@@ -3,20 +3,21 @@ use mathlib.Core.Path.{_≡_, refl}
 use mathlib.Core.Bool.{false}
 use Rattle.answers.specs.Answer.{among, Among}
 use Rattle.sff_format.specs.Writing.{newOutcome, appendOutcome}
-use Rattle.sff_format.proofs.Refusals.{header-numbers, file-numbers, step-numbers, position-numbers, signal-numbers, new-numbers, append-numbers}
+use Rattle.sff_format.proofs.Refusals.{header-numbers, file-numbers, step-numbers, view-numbers, position-numbers, signal-numbers, new-numbers, append-numbers}
 use Rattle.sff_correction.proofs.InOrder.{record-numbers}
 use Rattle.sff_correction.proofs.Answered.{outcome-numbers}
 use Rattle.sff_correction.proofs.ListClaim.{list-numbers}
 use Rattle.filter_format.specs.Undo.{roomOf}
 use Rattle.filter_format.proofs.Refusals.{undo-numbers, layer-numbers, encode-numbers, encode-samples-numbers, undo-samples-numbers}
 use lib.ListN.{length}
-use Rattle.claims.specs.Calls.{Call, header-test, file-test, reader-step, position-test, signal-test, new-file, append, record-test, correct, correct-list, undo-block, undo-layer, encode-layer, encode-samples, undo-samples, answerOf, numbersOf}
+use Rattle.claims.specs.Calls.{Call, header-test, file-test, reader-step, view-test, position-test, signal-test, new-file, append, record-test, correct, correct-list, undo-block, undo-layer, encode-layer, encode-samples, undo-samples, answerOf, numbersOf}
 
 pub call-numbers : (c : Call) → Among (numbersOf c) (answerOf c)
 unfolding newOutcome appendOutcome
 call-numbers (header-test b) = header-numbers b
 call-numbers (file-test b) = file-numbers b
 call-numbers (reader-step b s) = step-numbers b s
+call-numbers (view-test b v) = view-numbers b v
 call-numbers (position-test b i) = position-numbers b i
 call-numbers (signal-test b i) = signal-numbers b i
 call-numbers (new-file buffer characters key) = new-numbers (length buffer) characters key
@@ -36,6 +37,7 @@ unfolding among
 never-zero (header-test b) = refl
 never-zero (file-test b) = refl
 never-zero (reader-step b s) = refl
+never-zero (view-test b v) = refl
 never-zero (position-test b i) = refl
 never-zero (signal-test b i) = refl
 never-zero (new-file buffer characters key) = refl

@@ -6,10 +6,12 @@ use Rattle.answers.specs.declared.Answer.{Answer}
 use Rattle.sff_format.specs.Model.{Read}
 use Rattle.sff_format.specs.HeaderTest.{headerTest}
 use Rattle.sff_format.specs.FileTest.{fileTest}
+use Rattle.sff_format.specs.declared.ReadView.{ReadView}
+use Rattle.sff_format.specs.View.{viewTest}
 use Rattle.sff_format.specs.Step.{State, stepAnswer, step}
 use Rattle.sff_format.specs.Position.{positionTest, signalTest}
 use Rattle.sff_format.specs.Writing.{newOutcome, appendOutcome}
-use Rattle.sff_format.specs.Numbers.{headerNumbers, fileNumbers, stepNumbers, positionNumbers, signalNumbers, newNumbers, appendNumbers}
+use Rattle.sff_format.specs.Numbers.{headerNumbers, fileNumbers, stepNumbers, viewNumbers, positionNumbers, signalNumbers, newNumbers, appendNumbers}
 use Rattle.sff_correction.specs.Record.{recordTest}
 use Rattle.sff_correction.specs.Correct.{correctOutcome}
 use Rattle.sff_correction.specs.ListRun.{runList}
@@ -24,6 +26,7 @@ pub data Call : Type 0 where
   header-test : List ℕ → Call
   file-test : List ℕ → Call
   reader-step : List ℕ → State → Call
+  view-test : List ℕ → ReadView → Call
   position-test : List ℕ → ℕ → Call
   signal-test : List ℕ → ℕ → Call
   -- the buffer, flow characters, key
@@ -47,6 +50,7 @@ abbrev pub answerOf : Call → Answer
 answerOf (header-test b) = headerTest b
 answerOf (file-test b) = fileTest b
 answerOf (reader-step b s) = stepAnswer (step b s)
+answerOf (view-test b v) = viewTest b v
 answerOf (position-test b i) = positionTest b i
 answerOf (signal-test b i) = signalTest b i
 answerOf (new-file buffer characters key) = newOutcome buffer characters key .answer
@@ -64,6 +68,7 @@ abbrev pub numbersOf : Call → List ℕ
 numbersOf (header-test b) = headerNumbers
 numbersOf (file-test b) = fileNumbers
 numbersOf (reader-step b s) = stepNumbers
+numbersOf (view-test b v) = viewNumbers
 numbersOf (position-test b i) = positionNumbers
 numbersOf (signal-test b i) = signalNumbers
 numbersOf (new-file buffer characters key) = newNumbers

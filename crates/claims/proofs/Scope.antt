@@ -6,13 +6,13 @@ use mathlib.Core.Logic.{_↔_}
 use mathlib.Core.List.{List, [], _∷_, _++_}
 use lib.ListN.{length, take, drop, getD}
 use Rattle.octets.specs.Parts.{putAt}
-use Rattle.octets.specs.Numbers.{Bytes, bytesOf}
+use Rattle.octets.specs.Numbers.{Bytes}
 use Rattle.octets.proofs.AllBytes.{bytes-take}
 use Rattle.answers.specs.declared.Answer.the-variants.{Accepted, Refused}
 use Rattle.answers.specs.Answer.{numberOf, _then_}
 use Rattle.answers.proofs.Answers.{refused-or}
 use Rattle.sff_format.specs.Rules.{declared}
-use Rattle.sff_format.specs.Model.{Read, File, noIndex, layoutRead, layoutReads, layout, withReads}
+use Rattle.sff_format.specs.Model.{Read, File, noIndex, layoutRead, layout, withReads}
 use Rattle.sff_format.specs.Valid.{ValidRead, Valid}
 use Rattle.sff_format.specs.HeaderTest.{indexOffset, indexLength, readCount, flowCharacters}
 use Rattle.sff_format.specs.FileTest.{fileTest}
@@ -21,7 +21,7 @@ use Rattle.sff_format.specs.Places.{readAt, place, readPlace}
 use Rattle.sff_format.specs.Insert.{insertFirst, insertLast, insertOf}
 use Rattle.sff_format.specs.Step.{fresh, lastAnswer, readBack}
 use Rattle.sff_format.specs.Position.{positionTest, viewOf, insertStretch, fileInsert, fileFirst, fileLast}
-use Rattle.sff_format.specs.Writing.{newTest, newOutcome, newBuffer, givenTest, appendTest, appendOutcome, appendBuffer, writeEach, Holder, Lent, AllLent}
+use Rattle.sff_format.specs.Writing.{newOutcome, givenTest, appendTest, appendOutcome, appendBuffer, writeEach, Holder, Lent, AllLent}
 use Rattle.sff_format.proofs.FileLaid.{file-laid}
 use Rattle.sff_format.proofs.FileTaken.{file-back}
 use Rattle.sff_format.proofs.Places.{place-found, read-split}
@@ -32,20 +32,14 @@ use Rattle.sff_format.proofs.Writers.{write-each, write-exactly}
 use Rattle.sff_format.proofs.Holders.{given-exactly, append-exactly}
 use Rattle.sff_format.proofs.Appends.{append-afresh, append-valid}
 use Rattle.sff_format.proofs.Refusals.{append-zero, written-zero}
-use Rattle.sff_correction.specs.Record.{position}
-use Rattle.sff_correction.specs.Edit.{instead, target, edited}
-use Rattle.sff_correction.specs.Correct.{correctOutcome}
-use Rattle.sff_correction.proofs.EditedBytes.{sections-kept}
-use Rattle.sff_correction.proofs.Carried.{test-file, test-record, test-reasons}
-use Rattle.sff_correction.proofs.Answered.{outcome-zero}
 use Rattle.filter_format.specs.Block.{filterAt}
-use Rattle.filter_format.specs.Undo.{making, refusing, undo, undoLayer, undoFrom}
+use Rattle.filter_format.specs.Undo.{making, refusing, filtered, undo, undoLayer, undoFrom}
 use Rattle.filter_format.specs.Encode.{encode, SameFor}
 use Rattle.filter_format.specs.Samples.{encodeSamples, undoSamples}
 use Rattle.filter_format.proofs.Layers.{chain-after-encode, ninth-after-encode, encode-after-undo}
 use Rattle.filter_format.proofs.Eight.{under, eight-at-most}
 use Rattle.filter_format.proofs.Sampled.{encode-after-undo-samples}
-use Rattle.filter_format.proofs.Refusals.{layer-zero, encode-zero, undo-samples-zero}
+use Rattle.filter_format.proofs.Refusals.{layer-zero, encode-zero, undo-samples-zero, undo-none, layer-none, encode-none, encode-samples-none, undo-samples-none}
 
 -- THE FILE. What an accepted file says (`parse`) and writing afresh (`layout`) undo each other
 pub read-then-written : (b : List ℕ) → Bytes b → fileTest b ≡ Accepted → layout (parse b) ≡ b
@@ -88,17 +82,32 @@ then-none-left = then-33
 pub refused-at-last : (b : List ℕ) → lastAnswer b (suc (readCount b)) (fresh b) ≡ (fileTest b then Refused 33 (length b))
 refused-at-last = steps-end
 
--- WRITING. "A refusal changes nothing" (`sff_writer`); the length is "the length given if nothing is done; 0 for a refused new file"
-pub refused-new-file : (buffer characters key : List ℕ) → (numberOf (newTest (length buffer) characters key) ≡ 0 → ⊥)
-    → (newOutcome buffer characters key .length ≡ 0) × (newBuffer buffer characters key ≡ buffer)
-unfolding newOutcome newBuffer
-refused-new-file buffer characters key h = (refused-or _ _ _ h, refused-or _ _ _ h)
+-- ORDER OF THE FILE'S TESTS, AND WHAT IT ANSWERS. "A writer or corrector also answers the file's length afterwards (the length
+-- given if nothing is done; 0 for a refused new file), a filter the number of bytes it made (refused: 0)" (a corrector: Demands)
+pub refused-new-file : (buffer characters key : List ℕ) → (numberOf (newOutcome buffer characters key .answer) ≡ 0 → ⊥) → newOutcome buffer characters key .length ≡ 0
+unfolding newOutcome
+refused-new-file buffer characters key h = refused-or _ _ _ h
 
-pub refused-append : (buffer : List ℕ) (len : ℕ) (r : Read) → (numberOf (appendTest buffer len r) ≡ 0 → ⊥) → (appendOutcome buffer len r .length ≡ len) × (appendBuffer buffer len r ≡ buffer)
-unfolding appendOutcome appendBuffer
-refused-append buffer len r h = (refused-or _ _ _ h, refused-or _ _ _ h)
+pub refused-append : (buffer : List ℕ) (len : ℕ) (r : Read) → (numberOf (appendOutcome buffer len r .answer) ≡ 0 → ⊥) → appendOutcome buffer len r .length ≡ len
+unfolding appendOutcome
+refused-append buffer len r h = refused-or _ _ _ h
 
--- an append that is carried out leaves, at the front of the buffer, the file written afresh with one read more, which keeps the rules
+pub refused-undo : (room : ℕ) (b : List ℕ) → (numberOf (undo room b .answer) ≡ 0 → ⊥) → filtered (undo room b) .made ≡ 0
+refused-undo room b h = ap length (undo-none room b h)
+
+pub refused-layer : (room : ℕ) (b : List ℕ) → (numberOf (undoLayer room b .answer) ≡ 0 → ⊥) → filtered (undoLayer room b) .made ≡ 0
+refused-layer room b h = ap length (layer-none room b h)
+
+pub refused-encode : (room format level : ℕ) (follow s : List ℕ) → (numberOf (encode room format level follow s .answer) ≡ 0 → ⊥) → filtered (encode room format level follow s) .made ≡ 0
+refused-encode room format level follow s h = ap length (encode-none room format level follow s h)
+
+pub refused-samples : (room precision : ℕ) (s : List ℕ) → (numberOf (encodeSamples room precision s .answer) ≡ 0 → ⊥) → filtered (encodeSamples room precision s) .made ≡ 0
+refused-samples room precision s h = ap length (encode-samples-none room precision s h)
+
+pub refused-samples-back : (room precision : ℕ) (s : List ℕ) → (numberOf (undoSamples room precision s .answer) ≡ 0 → ⊥) → filtered (undoSamples room precision s) .made ≡ 0
+refused-samples-back room precision s h = ap length (undo-samples-none room precision s h)
+
+-- WRITING. An append that is carried out leaves, at the front of the buffer, the file written afresh with one read more, which keeps the rules
 pub appended-afresh : (buffer : List ℕ) (len : ℕ) (r : Read) → Bytes buffer → Lent r → appendTest buffer len r ≡ Accepted
     → (appendBuffer buffer len r ≡ putAt 0 (layout (withReads (parse (take len buffer) .reads ++ (r ∷ [])) (parse (take len buffer)))) buffer)
     × Valid (withReads (parse (take len buffer) .reads ++ (r ∷ [])) (parse (take len buffer)))
@@ -125,18 +134,6 @@ written-afresh = write-each
 pub written-exactly : (f : File) → f .index ≡ noIndex → (buffer : List ℕ) → AllLent (f .reads)
     → (numberOf (writeEach buffer f .outcome .answer) ≡ 0) ↔ (Valid f × (length (layout f) ≤ length buffer))
 written-exactly f e buffer t = ((λ a. write-exactly f e buffer t .0 (written-zero buffer f a)), (λ k. ap numberOf (write-exactly f e buffer t .1 k)))
-
--- "A correction gives its read the new clips or name, or leaves it out": what stands before that read and after it keeps every byte but the count at 20
-pub other-reads-kept : (buffer : List ℕ) (len : ℕ) (r : List ℕ) → Bytes buffer → Bytes r → numberOf (correctOutcome buffer len r .answer) ≡ 0
-    → layout (edited r (parse (take len buffer)))
-    ≡ putAt 20 (bytesOf 4 (length (edited r (parse (take len buffer)) .reads)))
-    (
-    take (readPlace (take len buffer) (position r)) (take len buffer)
-    ++ (layoutReads (instead r (target r (parse (take len buffer)))) ++ drop (readPlace (take len buffer) (position r) + length (layoutRead (target r (parse (take len buffer))))) (take len buffer))
-    )
-other-reads-kept buffer len r y z n =
-    let e = outcome-zero buffer len r n in
-    sections-kept (length buffer) r (take len buffer) (bytes-take len buffer y) (test-file buffer len r e) (test-record buffer len r e) z (test-reasons buffer len r e)
 
 -- FILTERED BLOCKS. "An opened layer hands its block to the choice of format, which opens the next layer, eight at most" (`filters::undo`): a layer that encoding made, where some may still be opened, and where none may
 module _ (room room' format level : ℕ) (follow s : List ℕ) (y : Bytes s) (z : Bytes follow) (carried : numberOf (encode room format level follow s .answer) ≡ 0) (fits : length s ≤ room') where

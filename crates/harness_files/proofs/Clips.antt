@@ -13,8 +13,7 @@ use Rattle.sff_format.specs.HeaderTest.{flows, flowCharacters}
 use Rattle.sff_format.specs.Step.{State, Step, found, stop, boundary, stepTest, step}
 use Rattle.sff_format.specs.View.{viewAt}
 use Rattle.sff_format.proofs.ReadLaid.{fits-16}
-use Rattle.sff_format.proofs.Steps.{step-found, step-stop}
-use Rattle.sff_reader.proofs.Reading.{read-accepted}
+use Rattle.sff_format.proofs.Steps.{step-found, step-stop, read-accepted}
 use Rattle.harness_files.specs.Outs.{SmallClips}
 
 small-at : (F : ℕ) (b : List ℕ) (p : ℕ) → Bytes b → p + 16 ≤ length b → SmallClips (viewAt F b p)

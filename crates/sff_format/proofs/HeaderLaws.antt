@@ -10,9 +10,10 @@ use Rattle.octets.specs.Numbers.{Bytes, number, fields}
 use Rattle.octets.specs.Scans.{isFlowCharacter, isZero, Every}
 use Rattle.octets.proofs.Lists.{length-part}
 use Rattle.answers.specs.declared.Answer.the-variants.{Accepted}
+use Rattle.answers.specs.Answer.{acceptedOr}
 use Rattle.sff_format.specs.Model.{File, headerFields, layoutHeader}
 use Rattle.sff_format.specs.Rules.{badIndex}
-use Rattle.sff_format.specs.HeaderTest.{indexOffset, indexLength, readCount, headerLength, keyLength, flows, charactersEnd, flowCharacters, fixedTest, charactersTest, headerTest}
+use Rattle.sff_format.specs.HeaderTest.{indexOffset, indexLength, readCount, headerLength, keyLength, flows, charactersEnd, flowCharacters, keyCharacters, fixedTest, charactersTest, headerTest, fileFlowCharacters, fileKey}
 use Rattle.sff_format.specs.Valid.{Valid}
 use Rattle.answers.proofs.Answers.{first-ok, second-ok, both-ok, when-ok, ok-when, under-ok, ok-under, same-ok, ok-same, scan-ok, ok-scan}
 use Rattle.sff_format.proofs.Sizes.{length-header}
@@ -75,6 +76,15 @@ module _ (b : List ℕ) (e : headerTest b ≡ Accepted) where
   pub index-good : badIndex (indexOffset b) (indexLength b) ≡ false
   unfolding charactersTest
   index-good = when-ok _ _ _ (second-ok _ _ (second-ok _ _ rest-ok))
+
+  -- its characters are handed out
+  pub flow-characters-given : fileFlowCharacters b ≡ flowCharacters b
+  unfolding fileFlowCharacters acceptedOr
+  flow-characters-given = rw e
+
+  pub key-given : fileKey b ≡ keyCharacters b
+  unfolding fileKey acceptedOr
+  key-given = rw e
 
   -- an accepted header is the layout of a file that says what it says
   module _ (y : Bytes b) (f : File) (c : f .flow-characters ≡ flowCharacters b) (k : f .key ≡ part (31 + flows b) (keyLength b) b)

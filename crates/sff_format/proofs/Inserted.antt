@@ -98,7 +98,7 @@ module _ (characters b : List ℕ) (p : ℕ) (y : Bytes b) (e : readTest charact
       rw (first-viewed, last-viewed, bases-viewed characters b p e) (whole-in (insertFirst r - 1) (suc (insertLast r) - insertFirst r) (r .bases) (omega arith))
 
   -- its first and last base lie in its bases, or right after each other at an end of them
-  limits : let v = viewAt (length characters) b p in (1 ≤ viewFirst v) × (viewFirst v ≤ v .bases .size + 1) × (viewLast v ≤ v .bases .size)
+  pub limits : let v = viewAt (length characters) b p in (1 ≤ viewFirst v) × (viewFirst v ≤ v .bases .size + 1) × (viewLast v ≤ v .bases .size)
   limits =
       let v = read-valid characters b p y e in
       let r = parseRead (length characters) b p in

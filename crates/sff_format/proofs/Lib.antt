@@ -22,6 +22,7 @@ pub mod Views
 pub mod Inserted
 pub mod Positions
 pub mod Steps
+pub mod ViewTests
 pub mod Runs
 -- Writing: a read appended, one that is lent to be written, the writers one after another, and what they leave read back.
 pub mod Appended

@@ -16,8 +16,9 @@ use Rattle.sff_format.specs.FileTest.{indexHere, passTest, indexTest, en
 use Rattle.sff_format.specs.Model.{Read, File}
 use Rattle.sff_format.specs.Position.{positionTest, signalTest}
 use Rattle.sff_format.specs.Writing.{newTest, newOutcome, givenTest, openTest, appendTest, appendOutcome, Left, newIn, appendTo, appendEach, writeEach}
-use Rattle.sff_format.specs.View.{viewAt}
-use Rattle.sff_format.specs.Numbers.{headerNumbers, fileNumbers, stepNumbers, positionNumbers, signalNumbers, newNumbers, appendNumbers}
+use Rattle.sff_format.specs.declared.ReadView.{ReadView}
+use Rattle.sff_format.specs.View.{viewAt, viewTest}
+use Rattle.sff_format.specs.Numbers.{headerNumbers, fileNumbers, stepNumbers, viewNumbers, positionNumbers, signalNumbers, newNumbers, appendNumbers}
 use Rattle.sff_format.specs.Step.{State, boundary, indexPassed, readOrNone, stepTest, moved, concluded, stepAnswer, step}
 
 -- the tests in their order
@@ -132,6 +133,21 @@ step-answered b s = go (stepTest b s)
 
 pub step-numbers : (b : List ℕ) (s : State) → Among stepNumbers (stepAnswer (step b s))
 step-numbers b s = rw (step-answered b s) (step-test-numbers b s)
+
+pub view-numbers : (b : List ℕ) (v : ReadView) → Among viewNumbers (viewTest b v)
+unfolding viewTest among
+view-numbers b v =
+    then-refusing _ _ _ (when-refusing _ _ 1 _ refl)
+    (
+    then-refusing _ _ _ (when-refusing _ _ 1 _ refl)
+    (
+    then-refusing _ _ _ (when-refusing _ _ 1 _ refl)
+    (
+    then-refusing _ _ _ (when-refusing _ _ 1 _ refl)
+    (then-refusing _ _ _ (when-refusing _ _ 1 _ refl) (when-refusing _ _ 1 _ refl))
+    )
+    )
+    )
 
 pub position-numbers : (b : List ℕ) (i : ℕ) → Among positionNumbers (positionTest b i)
 unfolding positionTest among

@@ -11,12 +11,13 @@ use Rattle.answers.specs.declared.Answer.the-variants.{Accepted}
 use Rattle.sff_format.specs.Rules.{declared}
 use Rattle.sff_format.specs.Model.{File, noIndex, layout}
 use Rattle.sff_format.specs.Valid.{Valid}
-use Rattle.sff_format.specs.HeaderTest.{indexOffset, indexLength, flowCharacters, keyCharacters}
+use Rattle.sff_format.specs.HeaderTest.{indexOffset, indexLength, fileFlowCharacters, fileKey}
 use Rattle.sff_format.specs.FileTest.{fileTest}
 use Rattle.sff_format.specs.Parse.{parse}
 use Rattle.sff_format.specs.Step.{readBack}
 use Rattle.sff_format.specs.Writing.{writeEach}
-use Rattle.sff_format.proofs.FileLaid.{file-laid, file-valid}
+use Rattle.sff_format.proofs.HeaderLaws.{flow-characters-given, key-given}
+use Rattle.sff_format.proofs.FileLaid.{head-ok, file-laid, file-valid}
 use Rattle.sff_format.proofs.FileTaken.{file-taken, file-back}
 use Rattle.sff_format.proofs.Written.{layout-bytes}
 use Rattle.sff_format.proofs.Steps.{reads-in-order}
@@ -32,16 +33,21 @@ pub written-back : (f : File) → f .index ≡ noIndex → Valid f → (buffer :
 written-back f e v buffer h = rw (write-each f e v buffer h, take-front (layout f) buffer) (laid-back f v)
 
 module _ (b : List ℕ) (y : Bytes b) (e : fileTest b ≡ Accepted) (d : declared (indexOffset b) (indexLength b) ≡ false) where
-  -- what is read: the characters from the header, the reads from the reader
+  -- what is read: the characters that the header's calls hand out, the reads from the reader
   abbrev again : File
-  again = record { flow-characters = flowCharacters b; key = keyCharacters b; index = noIndex; reads = readBack b }
+  again = record { flow-characters = fileFlowCharacters b; key = fileKey b; index = noIndex; reads = readBack b }
 
   same : again ≡ parse b
   unfolding parse
-  same = λ j. record { flow-characters = flowCharacters b; key = keyCharacters b; index = sym (no-index-read b d) j; reads = reads-in-order b e y j }
+  same = λ j. record {
+    flow-characters = flow-characters-given b (head-ok b e) j;
+    key = key-given b (head-ok b e) j;
+    index = sym (no-index-read b d) j;
+    reads = reads-in-order b e y j;
+  }
 
   pub written-again : (buffer : List ℕ) → length b ≤ length buffer
-      → writeEach buffer (record { flow-characters = flowCharacters b; key = keyCharacters b; index = noIndex; reads = readBack b })
+      → writeEach buffer (record { flow-characters = fileFlowCharacters b; key = fileKey b; index = noIndex; reads = readBack b })
       ≡ record { outcome = record { answer = Accepted; length = length b }; buffer = putAt 0 b buffer }
   written-again buffer h =
       let l : layout (parse b) ≡ b = file-laid b y e in

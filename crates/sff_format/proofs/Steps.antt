@@ -1,11 +1,12 @@
 -- Steps from a fresh state: the reads in order, each once, then 33; or the whole-file test's refusal at last. Assumes nothing.
-use Prim.Native.Nat.{ℕ, zero, suc, _+_, _≤_}
+use Prim.Native.Nat.{ℕ, zero, suc, _+_, _≤_, _<_}
 use mathlib.Core.Path.{_≡_, refl, sym, ap, _∙_}
 use mathlib.Core.Bool.{Bool, true, false, cond}
 use mathlib.Core.List.{List, map}
 use native.Mathlib.Omega.{arith}
 use lib.ListN.{length}
-use borrow.Author.Tests.{lt-ltb, le-ltb}
+use lib.Dec.{ltb}
+use borrow.Author.Tests.{ltb-true, lt-ltb, le-ltb}
 use Rattle.octets.specs.Numbers.{Bytes}
 use Rattle.answers.specs.declared.Answer.{Answer}
 use Rattle.answers.specs.declared.Answer.the-variants.{Accepted, Refused}
@@ -17,7 +18,7 @@ use Rattle.sff_format.specs.FileTest.{indexHere, passTest, indexTest, pa
 use Rattle.sff_format.specs.Step.{State, found, stop, concluded, stepTest, readOrNone, moved, boundary, indexPassed, step, freshPlace, fresh, onStop, lastAnswer, onFound, viewsFound, readBack}
 use Rattle.sff_format.specs.View.{viewAt, viewRead}
 use Rattle.sff_format.specs.Parse.{parseRead, parseReads, parse}
-use Rattle.answers.proofs.Answers.{second-ok, under-ok, then-accepted, then-assoc, then-on}
+use Rattle.answers.proofs.Answers.{not-accepted, first-ok, second-ok, under-ok, then-accepted, then-assoc, then-on}
 use Rattle.sff_format.proofs.HeaderLaws.{header-fits, characters-length}
 use Rattle.sff_format.proofs.Boundaries.{accepted-none, accepted-read}
 use Rattle.sff_format.proofs.FileLaid.{head-ok, sections-ok}
@@ -47,6 +48,33 @@ step-found b s e = rw e
 pub step-stop : (b : List ℕ) (s : State) (n p : ℕ) → stepTest b s ≡ Refused n p → step b s ≡ stop n p s
 unfolding step concluded
 step-stop b s n p e = rw e
+
+-- what a step's tests tell where they accept
+module _ (b : List ℕ) (s : State) (e : stepTest b s ≡ Accepted) where
+  pub header-accepted : headerTest b ≡ Accepted
+  unfolding stepTest
+  header-accepted = first-ok _ _ e
+
+  pub place-inside : s .place ≤ length b
+  unfolding stepTest
+  place-inside = under-ok _ _ _ _ (first-ok _ _ (second-ok _ _ e))
+
+  -- no end is accepted by a step: a read was
+  read-accepted-or : (s .passed-reads < readCount b) × (readTest (flowCharacters b) b (boundary b s) ≡ Accepted)
+  unfolding stepTest readOrNone
+  read-accepted-or = go (ltb (s .passed-reads) (readCount b)) refl (second-ok _ _ (second-ok _ _ (second-ok _ _ e)))
+    where
+      go : (t : Bool) → ltb (s .passed-reads) (readCount b) ≡ t
+          → cond t (readTest (flowCharacters b) b (boundary b s)) (endTest b (boundary b s) (indexPassed b s) then Refused 33 (boundary b s)) ≡ Accepted
+          → (s .passed-reads < readCount b) × (readTest (flowCharacters b) b (boundary b s) ≡ Accepted)
+      go true l a = (ltb-true _ _ l, a)
+      go false l a = not-accepted 33 (boundary b s) (second-ok (endTest b (boundary b s) (indexPassed b s)) (Refused 33 (boundary b s)) a)
+
+  pub one-left : s .passed-reads < readCount b
+  one-left = read-accepted-or .0
+
+  pub read-accepted : readTest (flowCharacters b) b (boundary b s) ≡ Accepted
+  read-accepted = read-accepted-or .1
 
 last-step : (b : List ℕ) (k : ℕ) (s : State) → lastAnswer b (suc k) s ≡ (stepTest b s then lastAnswer b k (moved b s))
 unfolding lastAnswer onStop step concluded _then_

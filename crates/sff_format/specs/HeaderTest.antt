@@ -1,14 +1,14 @@
 -- The header's fields, and its tests in document 01's order. Assumes nothing: these are definitions.
 use Prim.Native.Nat.{ℕ, _+_}
 use mathlib.Core.Bool.{not}
-use mathlib.Core.List.{List}
+use mathlib.Core.List.{List, []}
 use lib.ListN.{length}
 use lib.Dec.{ltb, eqb}
 use Rattle.octets.specs.Parts.{part, up8}
 use Rattle.octets.specs.Numbers.{number}
 use Rattle.octets.specs.Scans.{firstNot, isFlowCharacter, isZero}
 use Rattle.answers.specs.declared.Answer.{Answer}
-use Rattle.answers.specs.Answer.{when, stopped, _then_}
+use Rattle.answers.specs.Answer.{when, stopped, acceptedOr, _then_}
 use Rattle.sff_format.specs.Rules.{badIndex}
 
 -- "index offset at 8 (8 bytes), index length at 16 (4), reads at 20 (4), header length at 24 (2), key length K at 26 (2), flows F at 28 (2)"
@@ -63,3 +63,10 @@ headerTest b =
     then fixedTest b
     then when (ltb (length b) (headerLength b)) 1 0
     then charactersTest b
+
+-- the characters as they are handed out: none where the header is refused
+unfoldable pub fileFlowCharacters : List ℕ → List ℕ
+fileFlowCharacters b = acceptedOr (headerTest b) (flowCharacters b) []
+
+unfoldable pub fileKey : List ℕ → List ℕ
+fileKey b = acceptedOr (headerTest b) (keyCharacters b) []

@@ -14,6 +14,10 @@ fileNumbers = 1 ∷ 2 ∷ 3 ∷ 4 ∷ 5 ∷ 6 ∷ 7 ∷ 8 ∷ 9 ∷ 10 ∷ 11 �
 abbrev pub stepNumbers : List ℕ
 stepNumbers = 33 ∷ fileNumbers
 
+-- of a view that may be any, "section runs past the end"
+abbrev pub viewNumbers : List ℕ
+viewNumbers = 1 ∷ []
+
 -- of an insert, "the file's, 21"; of a signal summary, "the file's, 21, 32"
 abbrev pub positionNumbers : List ℕ
 positionNumbers = 21 ∷ fileNumbers

@@ -1,9 +1,13 @@
 -- What is said of a read in numbers: its place, where its contents lie, and its clips. Assumes nothing: these are definitions.
 use Prim.Native.Nat.{ℕ, suc, _+_, _-_, _*_, _/_}
+use mathlib.Core.Bool.{Bool, _&&_}
 use mathlib.Core.List.{List}
 use lib.ListN.{length}
+use lib.Dec.{ltb, leb}
 use Rattle.octets.specs.Parts.{wholePart}
 use Rattle.octets.specs.Numbers.{wordsAt}
+use Rattle.answers.specs.declared.Answer.{Answer}
+use Rattle.answers.specs.Answer.{when, _then_}
 use Rattle.sff_format.specs.declared.Stretch.{Stretch}
 use Rattle.sff_format.specs.declared.ReadView.{ReadView}
 use Rattle.sff_format.specs.Model.{Read}
@@ -55,3 +59,22 @@ viewLast v = lastBase (v .bases .size) (v .«quality_right») (v .«adapter_righ
 
 unfoldable pub insertIn : List ℕ → ReadView → List ℕ
 insertIn b v = wholePart (viewFirst v - 1) (suc (viewLast v) - viewFirst v) (bytesIn b (v .bases))
+
+-- a stretch that does not lie in the file whole
+abbrev pub outside : List ℕ → Stretch → Bool
+outside b x = ltb (length b) (x .at + x .size)
+
+-- an insert that is not empty and does not lie within the bases
+abbrev pub insertOutside : ReadView → Bool
+insertOutside v = leb (viewFirst v) (viewLast v) && ltb (v .bases .size) (viewLast v)
+
+-- whether all that a view names can be handed out: 1, "section runs past the end", at "its start", for the first part
+-- in file order of which this is not so; the insert, a part of the bases, comes last
+unfoldable pub viewTest : List ℕ → ReadView → Answer
+viewTest b v =
+    when (outside b (v .name)) 1 (v .name .at)
+    then when (outside b (v .values)) 1 (v .values .at)
+    then when (outside b (v .increments)) 1 (v .increments .at)
+    then when (outside b (v .bases)) 1 (v .bases .at)
+    then when (outside b (v .qualities)) 1 (v .qualities .at)
+    then when (insertOutside v) 1 (v .bases .at)

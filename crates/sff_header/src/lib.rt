@@ -1,10 +1,10 @@
-// The header's tests, and what its two index fields mean. What lengths an index may have and the room it takes is known to `bad_index_length` and `index_size` alone.
+// The header's tests, its flow and key characters, and what its two index fields mean. What lengths an index may have and the room it takes is known to `bad_index_length` and `index_size` alone.
 ghost use mathlib.Core.Path.{_≡_};
 ghost use Prim.Native.Nat.{_+_, _≤_};
 ghost use lib.ListN.{length};
 ghost use Rattle.octets.specs.Parts.{up8};
 ghost use Rattle.sff_format.specs.Rules.{badIndexLength, badIndex};
-ghost use Rattle.sff_format.specs.HeaderTest.{fixedTest, charactersTest, headerTest};
+ghost use Rattle.sff_format.specs.HeaderTest.{fixedTest, charactersTest, headerTest, fileFlowCharacters, fileKey};
 ghost use Rattle.sff_header.specs.Header.{headerOf, Small};
 
 pub mod inner;
@@ -14,6 +14,7 @@ use answers::Answer;
 use octets::ByteTest;
 use octets::first_not;
 use octets::get32;
+use octets::stretch;
 use octets::up8;
 
 // The fields of the common header that differ from file to file.
@@ -109,4 +110,28 @@ pub fn header_test(s: &[u8]) -> Answer
         return Answer::Refused(1, 0);
     }
     characters_test(s, header)
+}
+
+// The flow characters, none where the header is refused: `header_test` then gives the number.
+pub fn flow_characters(s: &[u8]) -> &[u8]
+    ensures { λ r. ⌜ now r ≡ fileFlowCharacters (now (s .entry)) ⌝ }
+{
+    let answer = header_test(s);
+    let Answer::Accepted = answer else {
+        return &s[..0];
+    };
+    let header = inner::header_fields(s);
+    stretch(s, 31, header.flows)
+}
+
+// The key characters, none where the header is refused.
+pub fn key(s: &[u8]) -> &[u8]
+    ensures { λ r. ⌜ now r ≡ fileKey (now (s .entry)) ⌝ }
+{
+    let answer = header_test(s);
+    let Answer::Accepted = answer else {
+        return &s[..0];
+    };
+    let header = inner::header_fields(s);
+    stretch(s, 31 + header.flows, header.key_length)
 }

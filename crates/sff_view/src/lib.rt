@@ -1,6 +1,8 @@
-// What a step says of a read, as parts of the lent file. A view that no step gave may name bytes outside of the file: its part is then the file's empty front.
+// What a step says of a read, as parts of the lent file. A view that no step gave may name bytes outside of the file: its part is then the file's empty front, and `view_test` says which part it is.
 ghost use mathlib.Core.Path.{_≡_};
-ghost use Rattle.sff_format.specs.View.{bytesIn, insertIn};
+ghost use Rattle.answers.specs.Answer.{when, _then_};
+ghost use Rattle.sff_format.specs.View.{bytesIn, insertIn, outside, insertOutside, viewTest};
+use answers::Answer;
 use octets::stretch;
 use sff_clips::first_base;
 use sff_clips::last_base;
@@ -55,4 +57,53 @@ pub fn insert(view: ReadView, s: &[u8]) -> &[u8]
     }
     let before = first.0 - 1;
     stretch(bases(view, s), before, last.0 - before)
+}
+
+// 1 at the start of a stretch that does not lie in the file whole. Its end is never added up: the sum could wrap.
+fn part_test(s: &[u8], x: Stretch) -> Answer
+    ensures { λ r. ⌜ r ≡ when (outside (now (s .entry)) x) 1 (x .at) ⌝ }
+{
+    if x.at > s.len() {
+        return Answer::Refused(1, x.at);
+    }
+    if x.size > s.len() - x.at {
+        return Answer::Refused(1, x.at);
+    }
+    Answer::Accepted
+}
+
+// 1 at the start of the bases where the insert is not empty and does not lie within them.
+fn insert_test(view: ReadView) -> Answer
+    ensures { λ r. ⌜ r ≡ when (insertOutside view) 1 (view .bases .at) ⌝ }
+{
+    let first = first_base(view);
+    let last = last_base(view);
+    if (first.0 <= last.0) & (last.0 > view.bases.size) {
+        return Answer::Refused(1, view.bases.at);
+    }
+    Answer::Accepted
+}
+
+// The first of two tests that refuses.
+fn first_of(a: Answer, b: Answer) -> Answer
+    ensures { λ r. ⌜ r ≡ (a then b) ⌝ }
+{
+    let Answer::Accepted = a else {
+        return a;
+    };
+    b
+}
+
+// Whether all that the view names can be handed out: the companion of the calls above, and of `first_base` and
+// `last_base` of sff_clips.
+pub fn view_test(view: ReadView, s: &[u8]) -> Answer
+    ensures { λ r. ⌜ r ≡ viewTest (now (s .entry)) view ⌝ }
+{
+    let name = part_test(s, view.name);
+    let values = part_test(s, view.values);
+    let increments = part_test(s, view.increments);
+    let bases = part_test(s, view.bases);
+    let qualities = part_test(s, view.qualities);
+    let data = first_of(bases, first_of(qualities, insert_test(view)));
+    first_of(name, first_of(values, first_of(increments, data)))
 }

@@ -4,7 +4,8 @@ use native.Mathlib.Omega.{arith}
 use Rattle.sff_format.proofs.HeaderLaws.{fits-31}
 use Rattle.sff_format.proofs.ReadLaid.{fits-16}
 use Rattle.sff_header.proofs.Fields.{flows-of, reads-of}
-use Rattle.sff_reader.proofs.Reading.{header-accepted, place-inside, one-left, read-accepted, found-is}
+use Rattle.sff_format.proofs.Steps.{header-accepted, place-inside, one-left, read-accepted}
+use Rattle.sff_reader.proofs.Reading.{found-is}
 use Rattle.sff_reader.proofs.found.Statement.{statement}
 use Rattle.sff_reader.proofs.found.Tie as tie
 

@@ -1,0 +1,132 @@
+-- A view that is accepted is handed out whole, and a view that a step gave is accepted: each part of it lies in the file. Assumes nothing.
+use Prim.Native.Nat.{ℕ, suc, _+_, _-_, _*_, _≤_}
+use mathlib.Core.Path.{_≡_, refl, sym, subst}
+use mathlib.Core.Bool.{Bool, true, false, _&&_, and-false}
+use mathlib.Core.List.{List}
+use native.Mathlib.Omega.{arith}
+use lib.ListN.{length}
+use lib.Dec.{leb, ltb}
+use borrow.Author.Tests.{leb-true, leb-false, ltb-false, le-ltb}
+use Rattle.octets.specs.Parts.{part, wholePart}
+use Rattle.octets.specs.Numbers.{Bytes}
+use Rattle.octets.proofs.Lists.{length-part, whole-in, whole-none}
+use Rattle.answers.specs.declared.Answer.{Answer}
+use Rattle.answers.specs.declared.Answer.the-variants.{Accepted, Refused}
+use Rattle.answers.specs.Answer.{when, _then_}
+use Rattle.answers.proofs.Answers.{first-ok, second-ok, both-ok, when-ok, ok-when, under-ok, ok-under}
+use Rattle.sff_format.specs.declared.Stretch.{Stretch}
+use Rattle.sff_format.specs.declared.ReadView.{ReadView}
+use Rattle.sff_format.specs.HeaderTest.{headerTest, flows, flowCharacters}
+use Rattle.sff_format.specs.ReadTest.{readTest}
+use Rattle.sff_format.specs.View.{viewAt, bytesIn, viewFirst, viewLast, insertIn, outside, insertOutside, viewTest}
+use Rattle.sff_format.specs.Step.{State, Step, found, stop, boundary, stepTest, step}
+use Rattle.sff_format.proofs.HeaderLaws.{characters-length}
+use Rattle.sff_format.proofs.ReadLaid.{section-is, section-fits, data-fits}
+use Rattle.sff_format.proofs.Inserted.{first-least, limits}
+use Rattle.sff_format.proofs.Steps.{step-found, step-stop, header-accepted, read-accepted}
+
+-- a stretch is handed out whole: the file's bytes from its place on, as many as it says
+abbrev pub Whole : List ℕ → Stretch → Type 0
+Whole b x = (bytesIn b x ≡ part (x .at) (x .size) b) × (length (bytesIn b x) ≡ x .size)
+
+whole : (b : List ℕ) (x : Stretch) → x .at + x .size ≤ length b → Whole b x
+whole b x h = let w = whole-in (x .at) (x .size) b h in (w, rw w (length-part (x .at) (x .size) b h))
+
+-- an insert that its test takes is empty, or lies within the bases l
+insert-length : (first last : ℕ) (l : List ℕ) → 1 ≤ first → (leb first last && ltb (length l) last) ≡ false
+    → length (wholePart (first - 1) (suc last - first) l) ≡ suc last - first
+insert-length first last l o e = go (leb first last) refl e
+  where
+    go : (t : Bool) → leb first last ≡ t → (t && ltb (length l) last) ≡ false
+        → length (wholePart (first - 1) (suc last - first) l) ≡ suc last - first
+    go true k f =
+        let h = leb-true first last k in
+        let m = ltb-false (length l) last f in
+        let i : first - 1 + (suc last - first) ≤ length l = omega arith in
+        rw (whole-in (first - 1) (suc last - first) l i) (length-part (first - 1) (suc last - first) l i)
+    go false k f =
+        let h = leb-false first last k in
+        let n : suc last - first ≡ 0 = omega arith in
+        rw (n, whole-none (first - 1) l)
+
+module _ (b : List ℕ) (v : ReadView) (e : viewTest b v ≡ Accepted) where
+  pub name-whole : Whole b (v .name)
+  unfolding viewTest
+  name-whole = whole b (v .name) (under-ok _ _ _ _ (first-ok _ _ e))
+
+  pub values-whole : Whole b (v .values)
+  unfolding viewTest
+  values-whole = whole b (v .values) (under-ok _ _ _ _ (first-ok _ _ (second-ok _ _ e)))
+
+  pub increments-whole : Whole b (v .increments)
+  unfolding viewTest
+  increments-whole = whole b (v .increments) (under-ok _ _ _ _ (first-ok _ _ (second-ok _ _ (second-ok _ _ e))))
+
+  -- the tests from the bases' on
+  from-bases : (when (outside b (v .bases)) 1 (v .bases .at) then when (outside b (v .qualities)) 1 (v .qualities .at) then when (insertOutside v) 1 (v .bases .at)) ≡ Accepted
+  unfolding viewTest
+  from-bases = second-ok _ _ (second-ok _ _ (second-ok _ _ e))
+
+  pub bases-whole : Whole b (v .bases)
+  bases-whole = whole b (v .bases) (under-ok _ _ _ _ (first-ok _ _ from-bases))
+
+  pub qualities-whole : Whole b (v .qualities)
+  qualities-whole = whole b (v .qualities) (under-ok _ _ _ _ (first-ok _ _ (second-ok _ _ from-bases)))
+
+  -- all bases from the first to the last of the insert, none where the last comes before the first
+  pub insert-whole : length (insertIn b v) ≡ suc (viewLast v) - viewFirst v
+  unfolding insertIn
+  insert-whole =
+      let t : insertOutside v ≡ false = when-ok _ _ _ (second-ok _ _ (second-ok _ _ from-bases)) in
+      insert-length (viewFirst v) (viewLast v) (bytesIn b (v .bases)) (first-least (v .«quality_left») (v .«adapter_left»)) (rw (bases-whole .1) t)
+
+-- the view of a read that is accepted
+module _ (characters b : List ℕ) (p : ℕ) (y : Bytes b) (e : readTest characters b p ≡ Accepted) where
+  name-inside : let v = viewAt (length characters) b p in v .name .at + v .name .size ≤ length b
+  unfolding viewAt
+  name-inside = let s = section-is characters b p e in let f = section-fits characters b p e in omega arith
+
+  data-inside :
+      let v = viewAt (length characters) b p in
+      (v .values .at + v .values .size ≤ length b) × (v .increments .at + v .increments .size ≤ length b)
+      × (v .bases .at + v .bases .size ≤ length b) × (v .qualities .at + v .qualities .size ≤ length b)
+  unfolding viewAt
+  data-inside = let f = data-fits characters b p e in (omega arith, omega arith, omega arith, omega arith)
+
+  insert-inside : insertOutside (viewAt (length characters) b p) ≡ false
+  insert-inside =
+      let v = viewAt (length characters) b p in
+      rw (le-ltb (v .bases .size) (viewLast v) (limits characters b p y e .2)) (and-false (leb (viewFirst v) (viewLast v)))
+
+  read-view-accepted : viewTest b (viewAt (length characters) b p) ≡ Accepted
+  unfolding viewTest
+  read-view-accepted =
+      let d = data-inside in
+      both-ok _ _ (ok-under _ _ _ _ name-inside)
+      (
+      both-ok _ _ (ok-under _ _ _ _ (d .0))
+      (
+      both-ok _ _ (ok-under _ _ _ _ (d .1))
+      (
+      both-ok _ _ (ok-under _ _ _ _ (d .2))
+      (both-ok _ _ (ok-under _ _ _ _ (d .3)) (ok-when (insertOutside (viewAt (length characters) b p)) _ _ insert-inside))
+      )
+      )
+      )
+
+-- what a step finds, whatever its state
+abbrev FoundAccepted : List ℕ → Step → Type 0
+FoundAccepted b (found v next) = viewTest b v ≡ Accepted
+FoundAccepted b (stop n p s) = Unit {0}
+
+step-accepted : (b : List ℕ) (s : State) → Bytes b → FoundAccepted b (step b s)
+step-accepted b s y = go (stepTest b s) refl
+  where
+    go : (a : Answer) → stepTest b s ≡ a → FoundAccepted b (step b s)
+    go Accepted e =
+        let c : length (flowCharacters b) ≡ flows b = characters-length b (header-accepted b s e) in
+        rw (step-found b s e) (rw c at (read-view-accepted (flowCharacters b) b (boundary b s) y (read-accepted b s e)))
+    go (Refused n p) e = rw (step-stop b s n p e) tt
+
+pub found-accepted : (b : List ℕ) (s : State) (v : ReadView) (next : State) → Bytes b → step b s ≡ found v next → viewTest b v ≡ Accepted
+found-accepted b s v next y e = subst (FoundAccepted b) e (step-accepted b s y)

@@ -100,9 +100,8 @@ refused-unchanged = refused-left
 -- Code: `sff_writer::new_file`, `append`; `sff_corrector::correct`, `correct_list`; `filters::undo`, `undo_layer`;
 -- `filter_encode::encode`; `scf_samples::encode_samples`, `undo_samples`; `service::sffstore_correct`.
 -- Shuts out:
---   a writer that writes before it judges (sff_writer/written_though_refused)
---   a buffer that an undo leaves as it was (filters/second_left_on_refusal)
---   an encoder that writes though it refuses (filter_encode/written_though_refused)
+--   an undo that leaves a buffer as it was (filters/second_not_zeroed, claims/refused_undo_leaves_the_second)
+--   a list that takes back what its earlier records did (claims/refused_list_changes_nothing)
 pub memory-after-refusal : (c : Call) → (numberOf (row c .answer) ≡ 0 → ⊥) → row c .memory ≡ row c .if-refused
 memory-after-refusal = row-refused
 
@@ -155,6 +154,7 @@ read-and-written-again = written-again
 -- Code: `filter_encode::encode`, `filters::undo_layer`; `scf_samples::encode_samples` and `undo_samples`.
 -- Shuts out:
 --   -128 in one byte (filter_narrow/minus_128_in_one_byte, filter_format/minus_128_in_one_byte)
+--   -127 in long form, which undoing takes all the same (filter_format/minus_127_in_long_form)
 --   the stored byte remembered (filter_follow/stored_byte_remembered, filter_format/stored_byte_remembered)
 --   a level that is left (filter_delta/last_level_left, filter_format/no_level_undone)
 --   a difference the other way (filter_delta/difference_the_other_way, filter_format/difference_the_other_way)
@@ -257,6 +257,8 @@ in-place-is-afresh = corrected-written
 -- Shuts out:
 --   a list run that does its first record only (sff_corrector/first_record_only, sff_correction/first_record_only)
 --   one with an invented count (sff_corrector/invented_count, sff_correction/invented_count)
+--   one that judges each record on the file, or its length, at the start (sff_correction/file_of_the_start,
+--   sff_correction/length_of_the_start)
 --   one that goes on from a place where no read starts (sff_corrector/mark_elsewhere)
 pub record WholeList (buffer : List ℕ) (len : ℕ) (l : List ℕ) (f : File) (all count : ℕ) (before : ℕ → Run) : Type 0 where
   -- "For every list of whole records, run on any accepted file, those carried out are exactly the ones before the first for

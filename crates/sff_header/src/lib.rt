@@ -26,17 +26,17 @@ pub struct Header {
     pub flows: usize,
 }
 
-fn bad_index_length(length: usize) -> bool
-    ensures { λ r. ⌜ r ≡ badIndexLength length ⌝ }
+fn bad_index_length(index_length: usize) -> bool
+    ensures { λ r. ⌜ r ≡ badIndexLength «index_length» ⌝ }
 {
-    (length < 8) | (length % 8 != 0)
+    (index_length < 8) | (index_length % 8 != 0)
 }
 
 // The test 8.
-fn bad_index(offset: usize, length: usize) -> bool
-    ensures { λ r. ⌜ r ≡ badIndex offset length ⌝ }
+fn bad_index(offset: usize, index_length: usize) -> bool
+    ensures { λ r. ⌜ r ≡ badIndex offset «index_length» ⌝ }
 {
-    is_declared(offset, length) & ((offset == 0) | bad_index_length(length))
+    is_declared(offset, index_length) & ((offset == 0) | bad_index_length(index_length))
 }
 
 // 31+F+K: where flow and key characters end.

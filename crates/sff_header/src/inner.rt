@@ -5,9 +5,9 @@ ghost use lib.ListN.{length};
 ghost use Rattle.sff_format.specs.Rules.{declared, indexSize};
 ghost use Rattle.sff_header.specs.Header.{headerOf, Small};
 use crate::Header;
-use octets::get16;
-use octets::get32;
-use octets::get64;
+use octets::inner::get16;
+use octets::inner::get32;
+use octets::inner::get64;
 
 // The header's fields, each read once.
 pub fn header_fields(s: &[u8]) -> Header

@@ -12,9 +12,9 @@ pub mod inner;
 use crate::inner::is_declared;
 use answers::Answer;
 use octets::ByteTest;
-use octets::first_not;
-use octets::get32;
-use octets::up8;
+use octets::inner::first_not;
+use octets::inner::get32;
+use octets::inner::up8;
 
 // The fields of the common header that differ from file to file.
 pub struct Header {

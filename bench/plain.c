@@ -205,9 +205,9 @@ uint64_t plain_test(const uint8_t *file, size_t n, uint64_t *place) {
 
 // Writing.
 
-uint64_t plain_new(uint8_t *buffer, size_t n, const uint8_t *flows, size_t f, const uint8_t *key, size_t k, uint64_t *place, uint64_t *length) {
+uint64_t plain_new(uint8_t *buffer, size_t n, const uint8_t *flows, size_t f, const uint8_t *key, size_t k, uint64_t *place, uint64_t *length_after) {
     *place = 0;
-    *length = 0;
+    *length_after = 0;
     if (f > 65497 || k > 65497 - f)
         return 5;
     if (first_not_flow_character(flows, 0, f) < f || first_not_flow_character(key, 0, k) < k)
@@ -226,7 +226,7 @@ uint64_t plain_new(uint8_t *buffer, size_t n, const uint8_t *flows, size_t f, co
     memcpy(buffer + 31, flows, f);
     memcpy(buffer + 31 + f, key, k);
     memset(buffer + used, 0, size - used);
-    *length = size;
+    *length_after = size;
     return 0;
 }
 
@@ -261,11 +261,11 @@ static Answer append_test(const uint8_t *buffer, size_t n, uint64_t file_length,
 
 uint64_t plain_append(uint8_t *buffer, size_t n, uint64_t file_length, const uint8_t *name, size_t l, uint64_t clips, const uint16_t *values, size_t f,
                       const uint8_t *increments, size_t a, const uint8_t *bases, size_t b, const uint8_t *qualities, size_t c, uint64_t *place,
-                      uint64_t *length) {
+                      uint64_t *length_after) {
     uint16_t each[4] = {clips >> 48, clips >> 32, clips >> 16, clips};
     Answer answer = append_test(buffer, n, file_length, name, l, each, f, increments, a, bases, b, c);
     *place = answer.place;
-    *length = file_length;
+    *length_after = file_length;
     if (answer.number != 0)
         return answer.number;
     uint8_t *s = buffer + file_length;
@@ -286,7 +286,7 @@ uint64_t plain_append(uint8_t *buffer, size_t n, uint64_t file_length, const uin
     memcpy(s + 2 * f + 2 * b, qualities, b);
     memset(s + used, 0, up8(used) - used);
     put32(buffer + 20, get32(buffer + 20) + 1);
-    *length = file_length + section + up8(used);
+    *length_after = file_length + section + up8(used);
     return 0;
 }
 
@@ -409,25 +409,25 @@ static Answer carry_first(uint8_t *s, size_t n, uint64_t *length, const uint8_t 
     return refused(carry_out(s, n, length, r, mark), 0);
 }
 
-uint64_t plain_correct(uint8_t *buffer, size_t n, uint64_t file_length, const uint8_t *record, size_t r, uint64_t *place, uint64_t *length) {
+uint64_t plain_correct(uint8_t *buffer, size_t n, uint64_t file_length, const uint8_t *record, size_t r, uint64_t *place, uint64_t *length_after) {
     Mark mark;
-    *length = file_length;
-    Answer answer = carry_first(buffer, n, length, record, r, &mark);
+    *length_after = file_length;
+    Answer answer = carry_first(buffer, n, length_after, record, r, &mark);
     *place = answer.place;
     return answer.number;
 }
 
 uint64_t plain_correct_list(uint8_t *buffer, size_t n, uint64_t file_length, const uint8_t *list, size_t r, uint64_t *count, uint64_t *place,
-                            uint64_t *length) {
+                            uint64_t *length_after) {
     Mark mark;
     *count = 0;
     *place = 0;
-    *length = file_length;
+    *length_after = file_length;
     if (r % 96 != 0)
         return 20;
     if (r == 0)
         return 0;
-    Answer answer = carry_first(buffer, n, length, list, 96, &mark);
+    Answer answer = carry_first(buffer, n, length_after, list, 96, &mark);
     *place = answer.place;
     if (answer.number != 0)
         return answer.number;
@@ -438,7 +438,7 @@ uint64_t plain_correct_list(uint8_t *buffer, size_t n, uint64_t file_length, con
         const uint8_t *record = list + 96 * done;
         if (!is_record(record))
             return 20;
-        uint64_t number = carry_out(buffer, n, length, record, &mark);
+        uint64_t number = carry_out(buffer, n, length_after, record, &mark);
         if (number != 0)
             return number;
     }

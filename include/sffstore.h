@@ -84,7 +84,7 @@ uint64_t sffstore_test(
  * SFFSTORE_ACCEPTED, or the first reason that holds, in this order: 14, 20, the file's own 1 to 13, 21,
  * 22, 25, 23, 24, 26. All is judged before a byte is written: a refused call changes no byte of the buffer.
  *
- * Carried out, the corrected file fills the first *length bytes of the buffer. If it has become shorter,
+ * Carried out, the corrected file fills the first *length_after bytes of the buffer. If it has become shorter,
  * the bytes from there to its old length are 0; all bytes behind the longer of the two lengths are as they were.
  */
 uint64_t sffstore_correct(
@@ -94,7 +94,7 @@ uint64_t sffstore_correct(
     const uint8_t *record, /* the record, which is only read */
     size_t r,              /* how many bytes the record has: 96, or it is refused with 20 */
     uint64_t *place,       /* out: the place in the file that the number speaks of; 0 where there is none */
-    uint64_t *length       /* out: how many bytes the file has after the call; file_length if it was refused */
+    uint64_t *length_after /* out: how many bytes the file has after the call; file_length if it was refused */
 );
 
 #ifdef __cplusplus

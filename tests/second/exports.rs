@@ -23,20 +23,20 @@ extern "C" {
     ) -> u64;
     fn h_new(
         buffer: *mut u8, n: usize, flows: *const u8, f: usize, key: *const u8, k: usize,
-        place: *mut u64, length: *mut u64,
+        place: *mut u64, length_after: *mut u64,
     ) -> u64;
     fn h_append(
         buffer: *mut u8, n: usize, file_length: u64, name: *const u8, l: usize, clips: u64,
         values: *const u16, f: usize, increments: *const u8, a: usize, bases: *const u8, b: usize,
-        qualities: *const u8, c: usize, place: *mut u64, length: *mut u64,
+        qualities: *const u8, c: usize, place: *mut u64, length_after: *mut u64,
     ) -> u64;
     fn h_correct(
         buffer: *mut u8, n: usize, file_length: u64, record: *const u8, r: usize,
-        place: *mut u64, length: *mut u64,
+        place: *mut u64, length_after: *mut u64,
     ) -> u64;
     fn h_correct_list(
         buffer: *mut u8, n: usize, file_length: u64, list: *const u8, r: usize,
-        count: *mut u64, place: *mut u64, length: *mut u64,
+        count: *mut u64, place: *mut u64, length_after: *mut u64,
     ) -> u64;
 }
 

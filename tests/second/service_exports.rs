@@ -8,7 +8,7 @@ extern "C" {
     fn sffstore_test(file: *const u8, n: usize, place: *mut u64) -> u64;
     fn sffstore_correct(
         buffer: *mut u8, n: usize, file_length: u64, record: *const u8, r: usize,
-        place: *mut u64, length: *mut u64,
+        place: *mut u64, length_after: *mut u64,
     ) -> u64;
 }
 

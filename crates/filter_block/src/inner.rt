@@ -18,7 +18,7 @@ use filter_narrow::Counted;
 use filter_narrow::inner::count_units;
 use filter_narrow::inner::put_widened;
 use octets::ByteTest;
-use octets::first_not;
+use octets::inner::first_not;
 use octets::wide;
 
 // What a format stands for.

@@ -7,8 +7,8 @@ ghost use Rattle.octets.specs.Numbers.{number, bytesOf};
 ghost use Rattle.filter_format.specs.Units.{IsWidth, range};
 use buffers::inner::put16;
 use buffers::inner::put32;
-use octets::get16;
-use octets::get32;
+use octets::inner::get16;
+use octets::inner::get32;
 use octets::wide;
 
 // The unit of w bytes at `at`.

@@ -118,21 +118,21 @@ pub extern "C" fn h_signal(
     signal_out(file, position, strongest, weakest, mean, place)
 }
 
-// `length` is the file's length afterwards.
+// `length_after` is the file's length afterwards.
 #[no_mangle]
 pub extern "C" fn h_new(
     buffer: &mut [u8],
     flows: &[u8],
     key: &[u8],
     place: &mut u64,
-    length: &mut u64,
+    length_after: &mut u64,
 ) -> u64
     ensures { λ r. ⌜ r ≡ numberOf (newOutcome (now (buffer .entry)) (now (flows .entry)) (now (key .entry)) .answer) ⌝ }
     ensures { λ _. ⌜ now (place .exit) ≡ placeOf (newOutcome (now (buffer .entry)) (now (flows .entry)) (now (key .entry)) .answer) ⌝ }
-    ensures { λ _. ⌜ now (length .exit) ≡ newOutcome (now (buffer .entry)) (now (flows .entry)) (now (key .entry)) .length ⌝ }
+    ensures { λ _. ⌜ now («length_after» .exit) ≡ newOutcome (now (buffer .entry)) (now (flows .entry)) (now (key .entry)) .length ⌝ }
     ensures { λ _. ⌜ now (buffer .exit) ≡ newBuffer (now (buffer .entry)) (now (flows .entry)) (now (key .entry)) ⌝ }
 {
-    new_out(buffer, flows, key, place, length)
+    new_out(buffer, flows, key, place, length_after)
 }
 
 #[no_mangle]
@@ -146,11 +146,11 @@ pub extern "C" fn h_append(
     bases: &[u8],
     qualities: &[u8],
     place: &mut u64,
-    length: &mut u64,
+    length_after: &mut u64,
 ) -> u64
     ensures { λ r. ⌜ r ≡ numberOf (appendOutcome (now (buffer .entry)) «file_length» (readOf (now (name .entry)) (clipsFrom clips) (now (values .entry)) (now (increments .entry)) (now (bases .entry)) (now (qualities .entry))) .answer) ⌝ }
     ensures { λ _. ⌜ now (place .exit) ≡ placeOf (appendOutcome (now (buffer .entry)) «file_length» (readOf (now (name .entry)) (clipsFrom clips) (now (values .entry)) (now (increments .entry)) (now (bases .entry)) (now (qualities .entry))) .answer) ⌝ }
-    ensures { λ _. ⌜ now (length .exit) ≡ appendOutcome (now (buffer .entry)) «file_length» (readOf (now (name .entry)) (clipsFrom clips) (now (values .entry)) (now (increments .entry)) (now (bases .entry)) (now (qualities .entry))) .length ⌝ }
+    ensures { λ _. ⌜ now («length_after» .exit) ≡ appendOutcome (now (buffer .entry)) «file_length» (readOf (now (name .entry)) (clipsFrom clips) (now (values .entry)) (now (increments .entry)) (now (bases .entry)) (now (qualities .entry))) .length ⌝ }
     ensures { λ _. ⌜ now (buffer .exit) ≡ appendBuffer (now (buffer .entry)) «file_length» (readOf (now (name .entry)) (clipsFrom clips) (now (values .entry)) (now (increments .entry)) (now (bases .entry)) (now (qualities .entry))) ⌝ }
 {
     append_out(
@@ -163,7 +163,7 @@ pub extern "C" fn h_append(
         bases,
         qualities,
         place,
-        length,
+        length_after,
     )
 }
 
@@ -173,14 +173,14 @@ pub extern "C" fn h_correct(
     file_length: u64,
     record: &[u8],
     place: &mut u64,
-    length: &mut u64,
+    length_after: &mut u64,
 ) -> u64
     ensures { λ r. ⌜ r ≡ numberOf (correctOutcome (now (buffer .entry)) «file_length» (now («record» .entry)) .answer) ⌝ }
     ensures { λ _. ⌜ now (place .exit) ≡ placeOf (correctOutcome (now (buffer .entry)) «file_length» (now («record» .entry)) .answer) ⌝ }
-    ensures { λ _. ⌜ now (length .exit) ≡ correctOutcome (now (buffer .entry)) «file_length» (now («record» .entry)) .length ⌝ }
+    ensures { λ _. ⌜ now («length_after» .exit) ≡ correctOutcome (now (buffer .entry)) «file_length» (now («record» .entry)) .length ⌝ }
     ensures { λ _. ⌜ now (buffer .exit) ≡ correctBuffer (now (buffer .entry)) «file_length» (now («record» .entry)) ⌝ }
 {
-    correct_out(buffer, file_length, record, place, length)
+    correct_out(buffer, file_length, record, place, length_after)
 }
 
 #[no_mangle]
@@ -190,15 +190,15 @@ pub extern "C" fn h_correct_list(
     list: &[u8],
     count: &mut u64,
     place: &mut u64,
-    length: &mut u64,
+    length_after: &mut u64,
 ) -> u64
     ensures { λ r. ⌜ r ≡ numberOf (runList (now (buffer .entry)) «file_length» (now (list .entry)) .outcome .answer) ⌝ }
     ensures { λ _. ⌜ now (count .exit) ≡ runList (now (buffer .entry)) «file_length» (now (list .entry)) .outcome .count ⌝ }
     ensures { λ _. ⌜ now (place .exit) ≡ placeOf (runList (now (buffer .entry)) «file_length» (now (list .entry)) .outcome .answer) ⌝ }
-    ensures { λ _. ⌜ now (length .exit) ≡ runList (now (buffer .entry)) «file_length» (now (list .entry)) .outcome .length ⌝ }
+    ensures { λ _. ⌜ now («length_after» .exit) ≡ runList (now (buffer .entry)) «file_length» (now (list .entry)) .outcome .length ⌝ }
     ensures { λ _. ⌜ now (buffer .exit) ≡ runList (now (buffer .entry)) «file_length» (now (list .entry)) .buffer ⌝ }
 {
-    correct_list_out(buffer, file_length, list, count, place, length)
+    correct_list_out(buffer, file_length, list, count, place, length_after)
 }
 
 #[no_mangle]

@@ -214,23 +214,23 @@ pub fn signal_out(
     number_of(answer)
 }
 
-// `length` is the file's length afterwards.
+// `length_after` is the file's length afterwards.
 pub fn new_out(
     buffer: &mut [u8],
     flows: &[u8],
     key: &[u8],
     place: &mut u64,
-    length: &mut u64,
+    length_after: &mut u64,
 ) -> u64
     ensures { λ r. ⌜ r ≡ numberOf (newOutcome (now (buffer .entry)) (now (flows .entry)) (now (key .entry)) .answer) ⌝ }
     ensures { λ _. ⌜ now (place .exit) ≡ placeOf (newOutcome (now (buffer .entry)) (now (flows .entry)) (now (key .entry)) .answer) ⌝ }
-    ensures { λ _. ⌜ now (length .exit) ≡ newOutcome (now (buffer .entry)) (now (flows .entry)) (now (key .entry)) .length ⌝ }
+    ensures { λ _. ⌜ now («length_after» .exit) ≡ newOutcome (now (buffer .entry)) (now (flows .entry)) (now (key .entry)) .length ⌝ }
     ensures { λ _. ⌜ now (buffer .exit) ≡ newBuffer (now (buffer .entry)) (now (flows .entry)) (now (key .entry)) ⌝ }
 {
     let outcome = new_file(buffer, flows, key);
     let answer = outcome.answer;
     *place = place_of(answer);
-    *length = outcome.length as u64;
+    *length_after = outcome.length as u64;
     number_of(answer)
 }
 
@@ -244,11 +244,11 @@ pub fn append_out(
     bases: &[u8],
     qualities: &[u8],
     place: &mut u64,
-    length: &mut u64,
+    length_after: &mut u64,
 ) -> u64
     ensures { λ r. ⌜ r ≡ numberOf (appendOutcome (now (buffer .entry)) «file_length» (readOf (now (name .entry)) (clipsFrom clips) (now (values .entry)) (now (increments .entry)) (now (bases .entry)) (now (qualities .entry))) .answer) ⌝ }
     ensures { λ _. ⌜ now (place .exit) ≡ placeOf (appendOutcome (now (buffer .entry)) «file_length» (readOf (now (name .entry)) (clipsFrom clips) (now (values .entry)) (now (increments .entry)) (now (bases .entry)) (now (qualities .entry))) .answer) ⌝ }
-    ensures { λ _. ⌜ now (length .exit) ≡ appendOutcome (now (buffer .entry)) «file_length» (readOf (now (name .entry)) (clipsFrom clips) (now (values .entry)) (now (increments .entry)) (now (bases .entry)) (now (qualities .entry))) .length ⌝ }
+    ensures { λ _. ⌜ now («length_after» .exit) ≡ appendOutcome (now (buffer .entry)) «file_length» (readOf (now (name .entry)) (clipsFrom clips) (now (values .entry)) (now (increments .entry)) (now (bases .entry)) (now (qualities .entry))) .length ⌝ }
     ensures { λ _. ⌜ now (buffer .exit) ≡ appendBuffer (now (buffer .entry)) «file_length» (readOf (now (name .entry)) (clipsFrom clips) (now (values .entry)) (now (increments .entry)) (now (bases .entry)) (now (qualities .entry))) ⌝ }
 {
     let outcome = append(
@@ -263,6 +263,6 @@ pub fn append_out(
     );
     let answer = outcome.answer;
     *place = place_of(answer);
-    *length = outcome.length as u64;
+    *length_after = outcome.length as u64;
     number_of(answer)
 }

@@ -22,16 +22,16 @@ pub fn correct_out(
     file_length: u64,
     record: &[u8],
     place: &mut u64,
-    length: &mut u64,
+    length_after: &mut u64,
 ) -> u64
     ensures { λ r. ⌜ r ≡ numberOf (correctOutcome (now (buffer .entry)) «file_length» (now («record» .entry)) .answer) ⌝ }
     ensures { λ _. ⌜ now (place .exit) ≡ placeOf (correctOutcome (now (buffer .entry)) «file_length» (now («record» .entry)) .answer) ⌝ }
-    ensures { λ _. ⌜ now (length .exit) ≡ correctOutcome (now (buffer .entry)) «file_length» (now («record» .entry)) .length ⌝ }
+    ensures { λ _. ⌜ now («length_after» .exit) ≡ correctOutcome (now (buffer .entry)) «file_length» (now («record» .entry)) .length ⌝ }
     ensures { λ _. ⌜ now (buffer .exit) ≡ correctBuffer (now (buffer .entry)) «file_length» (now («record» .entry)) ⌝ }
 {
     let outcome = correct(buffer, file_length as usize, record);
     let answer = outcome.answer;
     *place = place_of(answer);
-    *length = outcome.length as u64;
+    *length_after = outcome.length as u64;
     number_of(answer)
 }

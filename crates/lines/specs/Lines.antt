@@ -88,5 +88,5 @@ tooLong = 116 ∷ 111 ∷ 111 ∷ 32 ∷ 108 ∷ 111 ∷ 110 ∷ 103 ∷ 10 ∷ 
 
 -- of a list run: "The answer has their count and the number, place and length of the last record tried"
 unfoldable pub answerLine : ℕ → ℕ → ℕ → ℕ → List ℕ
-answerLine count number place length =
-    labelledNumber countLabel count space ++ labelledNumber numberLabel number space ++ labelledNumber placeLabel place space ++ labelledNumber lengthLabel length newline
+answerLine count number place size =
+    labelledNumber countLabel count space ++ labelledNumber numberLabel number space ++ labelledNumber placeLabel place space ++ labelledNumber lengthLabel size newline

@@ -3,7 +3,7 @@ ghost use mathlib.Core.Path.{_≡_};
 ghost use mathlib.Core.Bool.{not};
 ghost use Prim.Native.Nat.{_+_};
 ghost use lib.Dec.{ltb};
-ghost use lib.ListN.{length};
+ghost use lib.ListN.{length, replicate};
 ghost use Rattle.octets.specs.Parts.{putAt};
 ghost use Rattle.answers.specs.declared.Answer.the-variants.{Accepted};
 ghost use Rattle.sff_format.specs.FileTest.{fileTest};
@@ -135,6 +135,7 @@ pub fn print(input: &[u8], out: &mut [u8]) -> usize
 
 // Room for what the lister prints.
 pub fn print_room() -> [u8; 458816]
+    ensures { λ r. ⌜ r ≡ replicate 458816 0 ⌝ }
     ensures { λ r. ⌜ 458816 ≡ length r ⌝ }
 {
     [0; 458816]

@@ -1,7 +1,7 @@
 // What `correct` prints of a list run, into a lent buffer, and whether it writes a new file.
 ghost use mathlib.Core.Path.{_≡_};
 ghost use mathlib.Core.List.{_++_};
-ghost use lib.ListN.{length};
+ghost use lib.ListN.{length, replicate};
 ghost use Rattle.octets.specs.Parts.{putAt};
 ghost use Rattle.io.specs.Counts.{Counts};
 ghost use Rattle.text.specs.Writing.{Room};
@@ -53,6 +53,7 @@ pub fn too_long(out: &mut [u8]) -> usize
 
 // Room for what is printed.
 pub fn report_room() -> [u8; 256]
+    ensures { λ r. ⌜ r ≡ replicate 256 0 ⌝ }
     ensures { λ r. ⌜ 256 ≡ length r ⌝ }
 {
     [0; 256]

@@ -16,19 +16,19 @@ pub extern "C" fn sffstore_test(file: &[u8], place: &mut u64) -> u64
 }
 
 // Corrects the file that fills the first `file_length` bytes of the buffer by one record. Answers the number of the first reason to refuse it, which leaves
-// the buffer as it was, or 0; `length` is the file's length afterwards.
+// the buffer as it was, or 0; `length_after` is the file's length afterwards.
 #[no_mangle]
 pub extern "C" fn sffstore_correct(
     buffer: &mut [u8],
     file_length: u64,
     record: &[u8],
     place: &mut u64,
-    length: &mut u64,
+    length_after: &mut u64,
 ) -> u64
     ensures { λ r. ⌜ r ≡ numberOf (correctOutcome (now (buffer .entry)) «file_length» (now («record» .entry)) .answer) ⌝ }
     ensures { λ _. ⌜ now (place .exit) ≡ placeOf (correctOutcome (now (buffer .entry)) «file_length» (now («record» .entry)) .answer) ⌝ }
-    ensures { λ _. ⌜ now (length .exit) ≡ correctOutcome (now (buffer .entry)) «file_length» (now («record» .entry)) .length ⌝ }
+    ensures { λ _. ⌜ now («length_after» .exit) ≡ correctOutcome (now (buffer .entry)) «file_length» (now («record» .entry)) .length ⌝ }
     ensures { λ _. ⌜ now (buffer .exit) ≡ correctBuffer (now (buffer .entry)) «file_length» (now («record» .entry)) ⌝ }
 {
-    correct_out(buffer, file_length, record, place, length)
+    correct_out(buffer, file_length, record, place, length_after)
 }

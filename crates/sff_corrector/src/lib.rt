@@ -9,7 +9,7 @@ ghost use Rattle.sff_correction.specs.Correct.{correctOutcome, correctBuffer};
 ghost use Rattle.sff_correction.specs.ListRun.{turns, runList};
 ghost use Rattle.sff_corrector.specs.Carried.{outcomeOf, Ready, Onward};
 use answers::Answer;
-use octets::get32;
+use octets::inner::get32;
 use sff::file_test;
 use sff_correction::ListOutcome;
 use sff_edit::inner::apply;

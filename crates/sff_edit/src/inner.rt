@@ -15,9 +15,9 @@ ghost use Rattle.sff_edit.specs.Edits.{clippedAt, nameRoom, renamedAt, r
 use buffers::inner::copy;
 use buffers::inner::put16;
 use buffers::inner::put32;
-use octets::get16;
-use octets::get32;
-use octets::up8;
+use octets::inner::get16;
+use octets::inner::get32;
+use octets::inner::up8;
 use octets::wide;
 use sff_read::inner::read_end;
 use splice::inner::cut;

@@ -5,9 +5,9 @@ ghost use lib.ListN.{length};
 ghost use Rattle.sff_format.specs.Rules.{declared, indexSize};
 ghost use Rattle.sff_header.specs.Header.{headerOf, Small};
 use crate::Header;
-use octets::get16;
-use octets::get32;
-use octets::get64;
+use octets::inner::get16;
+use octets::inner::get32;
+use octets::inner::get64;
 
 // The header's fields, each read once.
 pub fn header_fields(s: &[u8]) -> Header
@@ -26,15 +26,15 @@ pub fn header_fields(s: &[u8]) -> Header
 }
 
 // Whether the header's two index fields say that there is an index.
-pub fn is_declared(offset: usize, length: usize) -> bool
-    ensures { λ r. ⌜ r ≡ declared offset length ⌝ }
+pub fn is_declared(offset: usize, index_length: usize) -> bool
+    ensures { λ r. ⌜ r ≡ declared offset «index_length» ⌝ }
 {
-    !((offset == 0) & (length == 0))
+    !((offset == 0) & (index_length == 0))
 }
 
 // The room that an index of a stated length occupies.
-pub fn index_size(length: usize) -> usize
-    ensures { λ r. ⌜ r ≡ indexSize length ⌝ }
+pub fn index_size(index_length: usize) -> usize
+    ensures { λ r. ⌜ r ≡ indexSize «index_length» ⌝ }
 {
-    length
+    index_length
 }

@@ -12,10 +12,10 @@ pub mod inner;
 use crate::inner::is_declared;
 use answers::Answer;
 use octets::ByteTest;
-use octets::first_not;
-use octets::get32;
+use octets::inner::first_not;
+use octets::inner::get32;
+use octets::inner::up8;
 use octets::stretch;
-use octets::up8;
 
 // The fields of the common header that differ from file to file.
 pub struct Header {
@@ -27,17 +27,17 @@ pub struct Header {
     pub flows: usize,
 }
 
-fn bad_index_length(length: usize) -> bool
-    ensures { λ r. ⌜ r ≡ badIndexLength length ⌝ }
+fn bad_index_length(index_length: usize) -> bool
+    ensures { λ r. ⌜ r ≡ badIndexLength «index_length» ⌝ }
 {
-    (length < 8) | (length % 8 != 0)
+    (index_length < 8) | (index_length % 8 != 0)
 }
 
 // The test 8.
-fn bad_index(offset: usize, length: usize) -> bool
-    ensures { λ r. ⌜ r ≡ badIndex offset length ⌝ }
+fn bad_index(offset: usize, index_length: usize) -> bool
+    ensures { λ r. ⌜ r ≡ badIndex offset «index_length» ⌝ }
 {
-    is_declared(offset, length) & ((offset == 0) | bad_index_length(length))
+    is_declared(offset, index_length) & ((offset == 0) | bad_index_length(index_length))
 }
 
 // 31+F+K: where flow and key characters end.

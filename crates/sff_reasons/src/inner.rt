@@ -16,10 +16,10 @@ ghost use Rattle.sff_correction.specs.Record.{kind, position, newLength, newQua
 ghost use Rattle.sff_correction.specs.Reasons.{bears, reasons};
 ghost use Rattle.sff_reasons.specs.Found.{Found, Plain};
 use answers::Answer;
-use octets::get16;
-use octets::get32;
-use octets::same_part;
-use octets::up8;
+use octets::inner::get16;
+use octets::inner::get32;
+use octets::inner::same_part;
+use octets::inner::up8;
 use octets::wide;
 use sff_clips::inner::clip_test;
 use sff_header::Header;

@@ -13,7 +13,7 @@ use buffers::inner::put_words;
 use buffers::inner::put16;
 use buffers::inner::put32;
 use buffers::inner::put64;
-use octets::up8;
+use octets::inner::up8;
 use sff_format::Clips;
 
 // How many bytes a read occupies.

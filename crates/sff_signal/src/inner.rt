@@ -5,7 +5,7 @@ ghost use lib.ListN.{length};
 ghost use Rattle.octets.specs.Numbers.{number, wordsAt};
 ghost use Rattle.sff_signal.specs.Signal.{sumOf, maxOf, minOf, over, summaryOf};
 use crate::Summary;
-use octets::get16;
+use octets::inner::get16;
 
 // The whole numbers that a summary is made of. 32 bits hold the sum of 65,535 values, and are exactly an f64.
 struct Totals {

@@ -9,7 +9,7 @@ use answers::Answer;
 use buffers::inner::put32;
 use octets::ByteTest;
 use octets::fails;
-use octets::get32;
+use octets::inner::get32;
 use sff::file_test;
 use sff_clips::inner::clip_test;
 use sff_format::Clips;

@@ -1,7 +1,7 @@
 // What `unfilter` prints of a block, into the two lent buffers in which the block is undone.
 ghost use mathlib.Core.Path.{_≡_};
 ghost use Prim.Native.Nat.{_≤_};
-ghost use lib.ListN.{length};
+ghost use lib.ListN.{length, replicate};
 ghost use Rattle.octets.specs.Parts.{filled};
 ghost use Rattle.filter_format.specs.Undo.{roomOf, secondAfter, undo};
 ghost use Rattle.io.specs.Counts.{Counts};
@@ -64,6 +64,7 @@ pub fn print(input: &[u8], first: &mut [u8], second: &mut [u8]) -> usize
 
 // A buffer for undoing what `unfilter` reads: four times the input, the most that one layer of format 71 makes of it.
 pub fn print_room() -> [u8; 262144]
+    ensures { λ r. ⌜ r ≡ replicate 262144 0 ⌝ }
     ensures { λ r. ⌜ 262144 ≡ length r ⌝ }
 {
     [0; 262144]

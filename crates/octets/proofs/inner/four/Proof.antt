@@ -1,8 +1,8 @@
 use native.Mathlib.Omega.{arith}
 use Rattle.octets.proofs.Digits.{number-four}
 use borrow.Author.Needs.{needs}
-use Rattle.octets.proofs.four.Statement.{statement}
-use Rattle.octets.proofs.four.Tie as tie
+use Rattle.octets.proofs.inner.four.Statement.{statement}
+use Rattle.octets.proofs.inner.four.Tie as tie
 
 pub four-spec : {M : Type 1} → statement M
 four-spec =

@@ -1,8 +1,8 @@
 use native.Mathlib.Omega.{arith}
 use Rattle.octets.proofs.Digits.{number-two}
 use borrow.Author.Needs.{needs}
-use Rattle.octets.proofs.get16.Statement.{statement}
-use Rattle.octets.proofs.get16.Tie as tie
+use Rattle.octets.proofs.inner.get16.Statement.{statement}
+use Rattle.octets.proofs.inner.get16.Tie as tie
 
 pub get16-spec : {M : Type 1} → statement M
 get16-spec =

@@ -2,8 +2,8 @@ use Prim.Native.Nat.{_-_}
 use native.Mathlib.Omega.{arith}
 use Rattle.octets.specs.Scans.{passes}
 use Rattle.octets.proofs.Scan.{Seen, seen-start, seen-stop, seen-end, scan}
-use Rattle.octets.proofs.first_not.Statement.{statement}
-use Rattle.octets.proofs.first_not.Tie as tie
+use Rattle.octets.proofs.inner.first_not.Statement.{statement}
+use Rattle.octets.proofs.inner.first_not.Tie as tie
 
 abbrev Inv-loop : tie.InvT-loop
 Inv-loop test s from to n j₀ j = Seen (passes test) from n s j

@@ -1,8 +1,8 @@
 use native.Mathlib.Omega.{arith}
 use Rattle.octets.proofs.Digits.{number-split}
 use borrow.Author.Needs.{needs}
-use Rattle.octets.proofs.get64.Statement.{statement}
-use Rattle.octets.proofs.get64.Tie as tie
+use Rattle.octets.proofs.inner.get64.Statement.{statement}
+use Rattle.octets.proofs.inner.get64.Tie as tie
 
 pub get64-spec : {M : Type 1} → statement M
 get64-spec =

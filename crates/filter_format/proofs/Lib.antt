@@ -9,3 +9,4 @@ pub mod Results
 pub mod Sampled
 pub mod Refusals
 pub mod Eight
+pub mod InWords

@@ -20,14 +20,15 @@ use Rattle.answers.proofs.Answers.{or-left, or-right, or-either, and-both}
 use Rattle.answers.proofs.Numbered.{then-refusing, when-refusing, held-refusing}
 use Rattle.sff_format.specs.Rules.{declared, badIndexLength, badIndex, isFlow, walkRun, isCall, callRun}
 use Rattle.sff_format.specs.Model.{Read}
-use Rattle.sff_format.specs.Valid.{ValidRead}
+use Rattle.sff_format.specs.Valid.{ValidRead, ValidReads}
 use Rattle.sff_format.specs.HeaderTest.{indexOffset, indexLength, readCount, headerLength, keyLength, flows, flowCharacters, fixedTest, charactersTest, headerTest}
 use Rattle.sff_format.specs.FileTest.{fileTest}
 use Rattle.sff_format.specs.Parse.{parse}
-use Rattle.sff_format.specs.Places.{readAt}
+use Rattle.sff_format.specs.Places.{noRead, readAt}
 use Rattle.sff_format.specs.Insert.{firstBase, rightEnd, lastBase, insertFirst, insertLast, insertOf}
 use Rattle.sff_format.specs.Step.{freshPlace, fresh}
 use Rattle.sff_format.proofs.HeaderLaws.{header-sized, index-good}
+use Rattle.sff_format.proofs.Boundaries.{undeclared}
 use Rattle.sff_format.proofs.FileLaid.{reads-counted, file-valid}
 use Rattle.sff_format.proofs.Keeps.{valid-at}
 use Rattle.sff_format.proofs.Inserted.{first-least, first-in, last-in}
@@ -248,6 +249,18 @@ index-bad offset len = (bad, λ h. go (badIndex offset len) refl h)
     go true e h = refl
     go false e h = absurd (⊎-elim (h .0) (λ g. ⊎-elim (λ z. omega (arith, g)) (⊎-elim (λ z. omega (arith, g)) (⊎-elim (λ z. omega (arith, g)) (λ z. z (g .2)))) (h .1)) (index-fine offset len .0 e))
 
+-- "An index is absent when offset and length are both 0"
+pub declared-exactly : (offset len : ℕ) → (declared offset len ≡ true) ↔ (((offset ≡ 0) × (len ≡ 0)) → ⊥)
+unfolding declared
+declared-exactly offset len = (
+  λ e z. not-both (sym e ∙ rw (eq-eqb offset 0 (z .0), eq-eqb len 0 (z .1))),
+  λ h. go (declared offset len) refl h,
+)
+  where
+    go : (t : Bool) → declared offset len ≡ t → (((offset ≡ 0) × (len ≡ 0)) → ⊥) → t ≡ true
+    go true e h = refl
+    go false e h = absurd (h (undeclared offset len e))
+
 pub header-index : (b : List ℕ) → headerTest b ≡ Accepted → GoodIndex (indexOffset b) (indexLength b)
 header-index b e = index-fine (indexOffset b) (indexLength b) .0 (index-good b e)
 
@@ -298,6 +311,11 @@ fresh-accepted b e = rw e (refl, header-sized b e)
 pub fresh-refused : (b : List ℕ) (n p : ℕ) → headerTest b ≡ Refused n p → fresh b .place ≡ 0
 unfolding fresh freshPlace
 fresh-refused b n p e = rw e
+
+-- reads keep the rules exactly if each does
+pub each-valid : (characters : List ℕ) (rs : List Read) → ((i : ℕ) → i < length rs → ValidRead characters (getD rs i noRead)) → ValidReads characters rs
+each-valid characters [] h = tt
+each-valid characters (r ∷ rs) h = (h 0 (omega arith), each-valid characters rs (λ i l. h (suc i) (omega arith)))
 
 -- each read of an accepted file keeps the rules
 pub read-keeps : (b : List ℕ) → Bytes b → fileTest b ≡ Accepted → (i : ℕ) → i < readCount b → ValidRead (flowCharacters b) (readAt (parse b) i)

@@ -22,6 +22,12 @@ module _ (P : ℕ → ℕ → Type 0) where
   when-refusing true n p h = h
   when-refusing false n p h = tt
 
+  -- a test that holds
+  pub held-refusing : (t : Bool) (n p : ℕ) → (t ≡ true → P n p) → Refusing P (when t n p)
+  unfolding when
+  held-refusing true n p h = h refl
+  held-refusing false n p h = tt
+
 -- a property of the number alone is kept where the place changes
 module _ (P : ℕ → Type 0) where
   pub shifted-refusing : (from : ℕ) (a : Answer) → Refusing (λ n p. P n) a → Refusing (λ n p. P n) (shifted from a)

@@ -1,5 +1,10 @@
--- The demands, and further sentences of document 01; below them the table of marked cases computed, and the numbers of each call.
+-- The demands, and further sentences of document 01 in its order; below them the table of marked cases computed, what is computed of E besides, and the table of calls row by row.
 pub mod Demands
-pub mod Scope
+pub mod ScopeFile
+pub mod ScopeReads
+pub mod ScopeWriting
+pub mod ScopeFilters
+pub mod ScopeLister
 pub mod MarkedCases
+pub mod ScopeCases
 pub mod Rows

@@ -10,3 +10,4 @@ pub mod Sampled
 pub mod Refusals
 pub mod Eight
 pub mod ByRule
+pub mod InWords

@@ -1,3 +1,4 @@
--- `Lengths`: how long a line can be; `Cases`: document 01's own lines.
+-- `Lengths`: how long a line can be; `WrittenOut`: its fields in order; `Cases`: document 01's own lines.
 pub mod Lengths
+pub mod WrittenOut
 pub mod Cases

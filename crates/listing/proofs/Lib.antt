@@ -1,3 +1,4 @@
 pub mod Lengths
 pub mod Turns
 pub mod Whole
+pub mod Printed

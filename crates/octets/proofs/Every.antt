@@ -1,5 +1,5 @@
 -- A test over the whole of a list. Assumes nothing.
-use Prim.Native.Nat.{ℕ, suc, _+_, _≤_, _<_, compare·suc-suc}
+use Prim.Native.Nat.{ℕ, zero, suc, _+_, _≤_, _<_, compare·suc-suc}
 use mathlib.Core.Path.{_≡_, refl, sym, ap, _∙_}
 use mathlib.Core.Bool.{Bool, true, false, not, _||_, or-assoc}
 use mathlib.Core.List.{List, [], _∷_, _++_}
@@ -19,7 +19,7 @@ pub every-passes : (test : ℕ → Bool) (xs : List ℕ) → Every test xs → f
 every-passes test xs e = le-ltb (run test xs) (length xs) (omega arith)
 
 -- every element of both lists
-first-passes : (t : Bool) (k n : ℕ) → oneMore t k ≡ suc n → (t ≡ true) × (k ≡ n)
+pub first-passes : (t : Bool) (k n : ℕ) → oneMore t k ≡ suc n → (t ≡ true) × (k ≡ n)
 first-passes true k n e = (refl, omega (arith, e))
 first-passes false k n e = absurd (let a : ⊥ = omega (arith, e) in a)
 
@@ -37,6 +37,20 @@ pub every-both : (test : ℕ → Bool) (xs ys : List ℕ) → Every test xs → 
 unfolding run
 every-both test [] ys e f = f
 every-both test (x ∷ xs) ys e f = let g = first-passes (test x) _ _ e in rw (g .0) (ap suc (every-both test xs ys (g .1) f))
+
+-- every element, place by place
+pub every-at : (test : ℕ → Bool) (xs : List ℕ) → Every test xs → (i : ℕ) → i < length xs → test (getD xs i 0) ≡ true
+unfolding run
+every-at test [] e i h = absurd (let a : ⊥ = omega arith in a)
+every-at test (x ∷ xs) e zero h = first-passes (test x) _ _ e .0
+every-at test (x ∷ xs) e (suc i) h = every-at test xs (first-passes (test x) _ _ e .1) i (omega arith)
+
+pub at-every : (test : ℕ → Bool) (xs : List ℕ) → ((i : ℕ) → i < length xs → test (getD xs i 0) ≡ true) → Every test xs
+unfolding run
+at-every test [] f = refl
+at-every test (x ∷ xs) f =
+    let t : test x ≡ true = f 0 (omega arith) in
+    rw t (ap suc (at-every test xs (λ i h. f (suc i) (omega arith))))
 
 -- one element more
 fails-one : (t : Bool) → ltb (oneMore t 0) 1 ≡ not t

@@ -31,5 +31,7 @@ pub mod Appends
 pub mod Writers
 pub mod Holders
 pub mod Rewritten
+-- The rules in document 01's words.
+pub mod InWords
 -- No refusal has the number 0.
 pub mod Refusals

@@ -48,6 +48,10 @@ pub position-none : (b : List ℕ) (i : ℕ) → fileTest b ≡ Accepted → rea
 unfolding positionTest _then_ when
 position-none b i e h = rw (e, le-ltb i (readCount b) h)
 
+pub position-refused : (b : List ℕ) (i n p : ℕ) → fileTest b ≡ Refused n p → positionTest b i ≡ Refused n p
+unfolding positionTest _then_
+position-refused b i n p e = rw e
+
 -- what stands for a refused call
 module _ (b : List ℕ) (i n p : ℕ) (e : positionTest b i ≡ Refused n p) where
   pub insert-refused : [] ≡ fileInsert b i
@@ -142,6 +146,10 @@ signal-none b i e h = rw (e, eq-eqb (flows b) 0 h)
 pub signal-there : (b : List ℕ) (i : ℕ) → positionTest b i ≡ Accepted → (flows b ≡ 0 → ⊥) → Accepted ≡ signalTest b i
 unfolding signalTest _then_ when
 signal-there b i e h = rw (e, ne-eqb (flows b) 0 h)
+
+pub signal-refused : (b : List ℕ) (i n p : ℕ) → positionTest b i ≡ Refused n p → signalTest b i ≡ Refused n p
+unfolding signalTest _then_
+signal-refused b i n p e = rw e
 
 module _ (b : List ℕ) (i : ℕ) (e : signalTest b i ≡ Accepted) where
   pub signal-position : positionTest b i ≡ Accepted

@@ -10,6 +10,8 @@ use Rattle.answers.specs.declared.Answer.the-variants.{Accepted, Refused}
 use Rattle.sff_format.specs.declared.ReadView.{ReadView}
 use Rattle.answers.specs.Answer.{acceptedOr}
 use Rattle.sff_format.specs.HeaderTest.{flows}
+use Rattle.sff_format.specs.Parse.{parse}
+use Rattle.sff_format.specs.Places.{readAt}
 use Rattle.sff_format.specs.Position.{signalTest, viewOf}
 use Rattle.sff_format.proofs.Positions.{signal-position, signal-flows, flows-small, values-size, values-inside, values-chosen}
 use Rattle.sff_signal.specs.Signal.{none, summaryOf, fileSignal}
@@ -23,6 +25,11 @@ pub signal-refused : (b : List ℕ) (i n p : ℕ) → signalTest b i ≡ Refused
     → record { strongest = ofBits binary64 0; weakest = ofBits binary64 0; mean = ofBits binary64 0 } ≡ fileSignal b i
 unfolding fileSignal acceptedOr
 signal-refused b i n p e = rw (e, literal)
+
+-- the summary is that of the read's values
+pub signal-is : (b : List ℕ) (i : ℕ) → signalTest b i ≡ Accepted → fileSignal b i ≡ summaryOf (readAt (parse b) i .values)
+unfolding fileSignal acceptedOr
+signal-is b i e = rw e
 
 module _ (b : List ℕ) (i : ℕ) (e : signalTest b i ≡ Accepted) (y : Bytes b) (v : ReadView) (w : v ≡ viewOf b i) where
   count : v .values .size / 2 ≡ flows b

@@ -1,8 +1,8 @@
 -- What the numbers of a summary are: the largest and the smallest are values and bound every value; each whole number is exactly a float. Assumes nothing.
-use Prim.Native.Nat.{ℕ, zero, suc, _*_, _≤_, _<_, min, max}
-use mathlib.Core.Path.{_≡_, refl}
+use Prim.Native.Nat.{ℕ, zero, suc, _+_, _*_, _≤_, _<_, min, max}
+use mathlib.Core.Path.{_≡_, refl, ap}
 use mathlib.Core.Bool.{Bool, true, false}
-use mathlib.Core.List.{List, [], _∷_}
+use mathlib.Core.List.{List, [], _∷_, sum}
 use native.Mathlib.Omega.{arith}
 use borrow.Author.Tests.{leb-true, leb-false}
 use lib.Dec.{leb}
@@ -50,6 +50,21 @@ min-in x [] = (0, omega arith, refl)
 min-in x (y ∷ ys) =
     let m = minOf (y ∷ ys) in
     one-of m (min x m) x (y ∷ ys) (leb m x) (λ e. let h = leb-true m x e in omega arith) (λ e. let h = leb-false m x e in omega arith) (min-in y ys)
+
+-- of values that there are
+pub largest-in : (xs : List ℕ) → 1 ≤ length xs → In (maxOf xs) xs
+largest-in [] h = absurd (let a : ⊥ = omega arith in a)
+largest-in (x ∷ xs) h = max-in x xs
+
+pub smallest-in : (xs : List ℕ) → 1 ≤ length xs → In (minOf xs) xs
+smallest-in [] h = absurd (let a : ⊥ = omega arith in a)
+smallest-in (x ∷ xs) h = min-in x xs
+
+-- the sum is the library's
+pub sum-is : (xs : List ℕ) → sumOf xs ≡ sum _+_ 0 xs
+unfolding sumOf sum
+sum-is [] = refl
+sum-is (x ∷ xs) = ap (λ (n : ℕ). x + n) (sum-is xs)
 
 -- fewer than 65,536 values of two bytes: each whole number of their summary is below 2^32
 sum-small : (xs : List ℕ) → Words xs → sumOf xs ≤ 65535 * length xs

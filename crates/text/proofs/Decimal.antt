@@ -1,12 +1,12 @@
 -- The laws of decimal digits: one more digit, how many there are, and the number that they spell. Assumes nothing.
 use mathlib.Core.Path.{_≡_, refl, ap, _∙_}
 use mathlib.Core.List.{List, [], _∷_, _++_}
-use mathlib.Core.Bool.{Bool, true, false}
+use mathlib.Core.Bool.{Bool, true, false, cond}
 use Prim.Native.Nat.{ℕ, zero, suc, _+_, _-_, _*_, _/_, _%_, _^_, _≤_, _<_}
 use native.Mathlib.Nat.{pow-suc}
 use native.Mathlib.Omega.{arith}
 use borrow.Author.Needs.{needs}
-use borrow.Author.Tests.{lt-ltb, le-ltb}
+use borrow.Author.Tests.{ltb-true, lt-ltb, le-ltb}
 use lib.Dec.{ltb}
 use lib.ListN.{length, length-append}
 use Rattle.text.specs.Writing.{Room}
@@ -109,3 +109,25 @@ enough (suc k) n h = go (ltb n 10) refl (enough k (n / 10) (fewer k n h))
 -- a number of 64 bits is what its decimal digits spell
 pub spells : (n : ℕ) → n < 2 ^ 64 → spelt 0 (decimal n) ≡ n
 spells n h = enough 19 n (omega arith)
+
+-- each of them is a digit, from 48 ("0") to 57 ("9")
+abbrev pub OfDigits : List ℕ → Type 0
+OfDigits [] = Unit {0}
+OfDigits (x ∷ xs) = ((48 ≤ x) × (x ≤ 57)) × OfDigits xs
+
+digit-more : (xs : List ℕ) (x : ℕ) → OfDigits xs → (48 ≤ x) × (x ≤ 57) → OfDigits (xs ++ (x ∷ []))
+digit-more [] x h k = (k, tt)
+digit-more (y ∷ xs) x h k = (h .0, digit-more xs x (h .1) k)
+
+all-digits : (k n : ℕ) → OfDigits (decimalOf k n)
+unfolding decimalOf
+all-digits zero n = tt
+all-digits (suc k) n = go (ltb n 10) refl (digit-more (decimalOf k (n / 10)) (48 + n % 10) (all-digits k (n / 10)) (omega arith, omega arith))
+  where
+    go : (t : Bool) → ltb n 10 ≡ t → OfDigits (decimalOf k (n / 10) ++ ((48 + n % 10) ∷ []))
+        → OfDigits (cond t ((48 + n) ∷ []) (decimalOf k (n / 10) ++ ((48 + n % 10) ∷ [])))
+    go true e h = let f = ltb-true n 10 e in ((omega arith, omega arith), tt)
+    go false e h = h
+
+pub decimal-digits : (n : ℕ) → OfDigits (decimal n)
+decimal-digits n = all-digits 20 n

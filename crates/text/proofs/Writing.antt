@@ -128,9 +128,9 @@ pub ruleset three = (three-1, three-2, three-3, three-next, three-put, needs)
 
 pub ruleset four = (four-1, four-2, four-3, four-4, four-next, four-put, needs)
 
--- the dash, where there is nothing
+-- the dash, where there is nothing; else the word as it is
 module _ (xs : List ℕ) (e : length xs ≡ 0) where
-  dash : orDash xs ≡ 45 ∷ []
+  pub dash : orDash xs ≡ 45 ∷ []
   unfolding orDash
   dash = rw (eq-eqb (length xs) 0 e)
 
@@ -141,7 +141,7 @@ module _ (xs : List ℕ) (e : length xs ≡ 0) where
   dash-wrote at l w = rw dash w
 
 module _ (xs : List ℕ) (h : length xs ≡ 0 → ⊥) where
-  word : orDash xs ≡ xs
+  pub word : orDash xs ≡ xs
   unfolding orDash
   word = rw (ne-eqb (length xs) 0 h)
 

@@ -1,5 +1,5 @@
 -- Steps from a fresh state: the reads in order, each once, then 33; or the whole-file test's refusal at last. Assumes nothing.
-use Prim.Native.Nat.{ℕ, zero, suc, _+_, _≤_}
+use Prim.Native.Nat.{ℕ, zero, suc, _+_, _≤_, _<_}
 use mathlib.Core.Path.{_≡_, refl, sym, ap, _∙_}
 use mathlib.Core.Bool.{Bool, true, false, cond}
 use mathlib.Core.List.{List, map}
@@ -9,6 +9,7 @@ use borrow.Author.Tests.{lt-ltb, le-ltb}
 use Rattle.octets.specs.Numbers.{Bytes}
 use Rattle.answers.specs.declared.Answer.{Answer}
 use Rattle.answers.specs.declared.Answer.the-variants.{Accepted, Refused}
+use Rattle.sff_format.specs.declared.ReadView.{ReadView}
 use Rattle.answers.specs.Answer.{when, _then_}
 use Rattle.sff_format.specs.Rules.{indexSize}
 use Rattle.sff_format.specs.HeaderTest.{indexLength, headerTest, headerLength, flows, flowCharacters, readCount}
@@ -47,6 +48,29 @@ step-found b s e = rw e
 pub step-stop : (b : List ℕ) (s : State) (n p : ℕ) → stepTest b s ≡ Refused n p → step b s ≡ stop n p s
 unfolding step concluded
 step-stop b s n p e = rw e
+
+-- "A step that refuses, with 33 or any other number, gives back its state unmoved", and one that finds a read has passed one more
+module _ (b : List ℕ) (s next : State) where
+  pub stop-unmoved : (n p : ℕ) → step b s ≡ stop n p next → next ≡ s
+  unfolding step concluded
+  stop-unmoved n p e = go (stepTest b s) e
+    where
+      go : (a : Answer) → concluded a (viewAt (flows b) b (boundary b s)) (moved b s) s ≡ stop n p next → next ≡ s
+      go Accepted f = cc
+      go (Refused m q) f = cc
+
+  pub found-moved : (v : ReadView) → step b s ≡ found v next → next ≡ moved b s
+  unfolding step concluded
+  found-moved v e = go (stepTest b s) e
+    where
+      go : (a : Answer) → concluded a (viewAt (flows b) b (boundary b s)) (moved b s) s ≡ found v next → next ≡ moved b s
+      go Accepted f = cc
+      go (Refused m q) f = cc
+
+-- "refuses a place beyond the file (1, that place)"
+pub place-beyond : (b : List ℕ) (s : State) → headerTest b ≡ Accepted → length b < s .place → step b s ≡ stop 1 (s .place) s
+unfolding step stepTest concluded _then_ when
+place-beyond b s e h = rw (e, lt-ltb (length b) (s .place) h)
 
 last-step : (b : List ℕ) (k : ℕ) (s : State) → lastAnswer b (suc k) s ≡ (stepTest b s then lastAnswer b k (moved b s))
 unfolding lastAnswer onStop step concluded _then_

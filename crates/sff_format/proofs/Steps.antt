@@ -10,6 +10,7 @@ use borrow.Author.Tests.{ltb-true, lt-ltb, le-ltb}
 use Rattle.octets.specs.Numbers.{Bytes}
 use Rattle.answers.specs.declared.Answer.{Answer}
 use Rattle.answers.specs.declared.Answer.the-variants.{Accepted, Refused}
+use Rattle.sff_format.specs.declared.ReadView.{ReadView}
 use Rattle.answers.specs.Answer.{when, _then_}
 use Rattle.sff_format.specs.Rules.{indexSize}
 use Rattle.sff_format.specs.HeaderTest.{indexLength, headerTest, headerLength, flows, flowCharacters, readCount}
@@ -75,6 +76,29 @@ module _ (b : List ℕ) (s : State) (e : stepTest b s ≡ Accepted) where
 
   pub read-accepted : readTest (flowCharacters b) b (boundary b s) ≡ Accepted
   read-accepted = read-accepted-or .1
+
+-- "A step that refuses, with 33 or any other number, gives back its state unmoved", and one that finds a read has passed one more
+module _ (b : List ℕ) (s next : State) where
+  pub stop-unmoved : (n p : ℕ) → step b s ≡ stop n p next → next ≡ s
+  unfolding step concluded
+  stop-unmoved n p e = go (stepTest b s) e
+    where
+      go : (a : Answer) → concluded a (viewAt (flows b) b (boundary b s)) (moved b s) s ≡ stop n p next → next ≡ s
+      go Accepted f = cc
+      go (Refused m q) f = cc
+
+  pub found-moved : (v : ReadView) → step b s ≡ found v next → next ≡ moved b s
+  unfolding step concluded
+  found-moved v e = go (stepTest b s) e
+    where
+      go : (a : Answer) → concluded a (viewAt (flows b) b (boundary b s)) (moved b s) s ≡ found v next → next ≡ moved b s
+      go Accepted f = cc
+      go (Refused m q) f = cc
+
+-- "refuses a place beyond the file (1, that place)"
+pub place-beyond : (b : List ℕ) (s : State) → headerTest b ≡ Accepted → length b < s .place → step b s ≡ stop 1 (s .place) s
+unfolding step stepTest concluded _then_ when
+place-beyond b s e h = rw (e, lt-ltb (length b) (s .place) h)
 
 last-step : (b : List ℕ) (k : ℕ) (s : State) → lastAnswer b (suc k) s ≡ (stepTest b s then lastAnswer b k (moved b s))
 unfolding lastAnswer onStop step concluded _then_

@@ -2,7 +2,9 @@
 ghost use mathlib.Core.Path.{_≡_};
 ghost use lib.ListN.{length};
 ghost use Rattle.answers.specs.Answer.{numberOf, placeOf};
+ghost use Rattle.sff_format.specs.HeaderTest.{headerTest, fileFlowCharacters, fileKey};
 ghost use Rattle.sff_format.specs.FileTest.{fileTest};
+ghost use Rattle.sff_format.specs.View.{viewTest};
 ghost use Rattle.sff_format.specs.Step.{fresh, step};
 ghost use Rattle.sff_format.specs.Position.{positionTest, signalTest, fileInsert, fileFirst, fileLast};
 ghost use Rattle.sff_format.specs.Writing.{newOutcome, newBuffer, readOf, appendOutcome, appendBuffer};
@@ -11,15 +13,18 @@ ghost use Rattle.sff_correction.specs.ListRun.{runList};
 ghost use Rattle.sff_signal.specs.Signal.{fileSignal};
 ghost use Rattle.filter_format.specs.Undo.{roomOf, firstAfter, secondAfter, undo, undoLayer};
 ghost use Rattle.filter_format.specs.Encode.{encode, outAfter};
-ghost use Rattle.harness_files.specs.Outs.{stateFrom, flag, steppedWith, steppedOf, putFront, clipsFrom};
+ghost use Rattle.harness_files.specs.Outs.{stateFrom, viewFrom, flag, steppedWith, steppedOf, putFront, clipsFrom};
 ghost use Rattle.harness_filters.specs.Samples.{samples};
 use harness_corrections::correct_list_out;
 use harness_files::append_out;
+use harness_files::flow_characters_out;
 use harness_files::fresh_out;
 use harness_files::insert_out;
+use harness_files::key_out;
 use harness_files::new_out;
 use harness_files::signal_out;
 use harness_files::step_out;
+use harness_files::view_test_out;
 use harness_filters::encode_out;
 use harness_filters::samples_out;
 use harness_filters::undo_layer_out;
@@ -33,6 +38,42 @@ pub extern "C" fn h_test(file: &[u8], place: &mut u64) -> u64
     ensures { λ _. ⌜ now (place .exit) ≡ placeOf (fileTest (now (file .entry))) ⌝ }
 {
     test_out(file, place)
+}
+
+// The characters go to the front of `out` if it has room for them all; if not it stays as it is. `made` is how many they are in either case.
+#[no_mangle]
+pub extern "C" fn h_flow_characters(
+    file: &[u8],
+    out: &mut [u8],
+    place: &mut u64,
+    made: &mut u64,
+) -> u64
+    ensures { λ r. ⌜ r ≡ numberOf (headerTest (now (file .entry))) ⌝ }
+    ensures { λ _. ⌜ now (place .exit) ≡ placeOf (headerTest (now (file .entry))) ⌝ }
+    ensures { λ _. ⌜ now (made .exit) ≡ length (fileFlowCharacters (now (file .entry))) ⌝ }
+    ensures { λ _. ⌜ now (out .exit) ≡ putFront (fileFlowCharacters (now (file .entry))) (now (out .entry)) ⌝ }
+{
+    flow_characters_out(file, out, place, made)
+}
+
+// The same of the key.
+#[no_mangle]
+pub extern "C" fn h_key(file: &[u8], out: &mut [u8], place: &mut u64, made: &mut u64) -> u64
+    ensures { λ r. ⌜ r ≡ numberOf (headerTest (now (file .entry))) ⌝ }
+    ensures { λ _. ⌜ now (place .exit) ≡ placeOf (headerTest (now (file .entry))) ⌝ }
+    ensures { λ _. ⌜ now (made .exit) ≡ length (fileKey (now (file .entry))) ⌝ }
+    ensures { λ _. ⌜ now (out .exit) ≡ putFront (fileKey (now (file .entry))) (now (out .entry)) ⌝ }
+{
+    key_out(file, out, place, made)
+}
+
+// The view by its numbers: place and size of its name, values, increments, bases and qualities, then its clips in file order. What is not given is 0.
+#[no_mangle]
+pub extern "C" fn h_view_test(file: &[u8], view: &[u64], place: &mut u64) -> u64
+    ensures { λ r. ⌜ r ≡ numberOf (viewTest (now (file .entry)) (viewFrom (now (view .entry)))) ⌝ }
+    ensures { λ _. ⌜ now (place .exit) ≡ placeOf (viewTest (now (file .entry)) (viewFrom (now (view .entry)))) ⌝ }
+{
+    view_test_out(file, view, place)
 }
 
 // The state comes in and goes out by `at`, `passed` and `index_passed`; `place` is the refusal's, and the last four speak of the read.

@@ -2,10 +2,11 @@
 use Prim.Native.Nat.{ℕ, _+_, _*_, _/_, _%_, _<_}
 use mathlib.Core.Bool.{Bool, cond, not}
 use mathlib.Core.List.{List}
-use lib.ListN.{length}
+use lib.ListN.{length, getD}
 use lib.Dec.{eqb, ltb}
 use Rattle.octets.specs.Parts.{putAt}
 use Rattle.sff_format.specs.declared.Clips.{Clips}
+use Rattle.sff_format.specs.declared.Stretch.{Stretch}
 use Rattle.sff_format.specs.declared.ReadView.{ReadView}
 use Rattle.sff_format.specs.Step.{State, Step, found, stop}
 use Rattle.harness_files.specs.declared.Stepped.{Stepped}
@@ -13,6 +14,26 @@ use Rattle.harness_files.specs.declared.Stepped.{Stepped}
 -- a state that is given as three numbers: the index is passed unless the third is 0
 abbrev pub stateFrom : ℕ → ℕ → ℕ → State
 stateFrom at passed index-passed = record { place = at; passed-reads = passed; passed-index = not (eqb index-passed 0) }
+
+-- a view that is given as a list of numbers: place and size of the name, the values, the increments, the bases and the
+-- qualities, then the clips in file order; what the list does not reach is 0, and so is the read's place, which no accessor
+-- asks for
+abbrev pub stretchFrom : List ℕ → ℕ → ℕ → Stretch
+stretchFrom l i j = record { at = getD l i 0; size = getD l j 0 }
+
+unfoldable pub viewFrom : List ℕ → ReadView
+viewFrom l = record {
+  place = 0;
+  name = stretchFrom l 0 1;
+  values = stretchFrom l 2 3;
+  increments = stretchFrom l 4 5;
+  bases = stretchFrom l 6 7;
+  qualities = stretchFrom l 8 9;
+  «quality_left» = getD l 10 0;
+  «quality_right» = getD l 11 0;
+  «adapter_left» = getD l 12 0;
+  «adapter_right» = getD l 13 0;
+}
 
 -- 1 for yes, 0 for no
 abbrev pub flag : Bool → ℕ

@@ -1,13 +1,15 @@
 // The calls on files with what they answer copied out, as `harness` exports them.
 ghost use mathlib.Core.Path.{_≡_};
-ghost use lib.ListN.{length};
+ghost use lib.ListN.{length, getD};
 ghost use Rattle.answers.specs.Answer.{numberOf, placeOf};
+ghost use Rattle.sff_format.specs.HeaderTest.{headerTest, fileFlowCharacters, fileKey};
+ghost use Rattle.sff_format.specs.View.{viewTest};
 ghost use Rattle.sff_format.specs.Step.{fresh, step, found, stop};
 ghost use Rattle.sff_format.specs.Position.{positionTest, signalTest, fileInsert, fileFirst, fileLast};
 ghost use Rattle.sff_format.specs.Writing.{newOutcome, newBuffer, readOf, appendOutcome, appendBuffer};
 ghost use Rattle.sff_reader.specs.Forms.{stateOf};
 ghost use Rattle.sff_signal.specs.Signal.{fileSignal};
-ghost use Rattle.harness_files.specs.Outs.{stateFrom, flag, viewClips, SmallClips, steppedWith, steppedOf, putFront, clipsFrom};
+ghost use Rattle.harness_files.specs.Outs.{stateFrom, flag, stretchFrom, viewFrom, viewClips, SmallClips, steppedWith, steppedOf, putFront, clipsFrom};
 use answers::number_of;
 use answers::place_of;
 use buffers::inner::copy;
@@ -15,12 +17,17 @@ use octets::wide;
 use sff_find::position_test;
 use sff_format::Clips;
 use sff_format::ReadView;
+use sff_format::Stretch;
+use sff_header::flow_characters;
+use sff_header::header_test;
+use sff_header::key;
 use sff_insert::insert;
 use sff_insert::insert_ends;
 use sff_reader::Reader;
 use sff_reader::Step;
 use sff_signal::signal;
 use sff_signal::signal_test;
+use sff_view::view_test;
 use sff_writer::append;
 use sff_writer::new_file;
 
@@ -159,6 +166,82 @@ fn clips_from(x: u64) -> Clips
         adapter_left: (x / 65536 % 65536) as u16,
         adapter_right: (x % 65536) as u16,
     }
+}
+
+// The characters go to the front of `out` if it has room for them all; if not it stays as it is. `made` is how many they are in either case.
+pub fn flow_characters_out(file: &[u8], out: &mut [u8], place: &mut u64, made: &mut u64) -> u64
+    ensures { λ r. ⌜ r ≡ numberOf (headerTest (now (file .entry))) ⌝ }
+    ensures { λ _. ⌜ now (place .exit) ≡ placeOf (headerTest (now (file .entry))) ⌝ }
+    ensures { λ _. ⌜ now (made .exit) ≡ length (fileFlowCharacters (now (file .entry))) ⌝ }
+    ensures { λ _. ⌜ now (out .exit) ≡ putFront (fileFlowCharacters (now (file .entry))) (now (out .entry)) ⌝ }
+{
+    let answer = header_test(file);
+    let flows = flow_characters(file);
+    *place = place_of(answer);
+    *made = flows.len() as u64;
+    put_front(out, flows);
+    number_of(answer)
+}
+
+// The same of the key.
+pub fn key_out(file: &[u8], out: &mut [u8], place: &mut u64, made: &mut u64) -> u64
+    ensures { λ r. ⌜ r ≡ numberOf (headerTest (now (file .entry))) ⌝ }
+    ensures { λ _. ⌜ now (place .exit) ≡ placeOf (headerTest (now (file .entry))) ⌝ }
+    ensures { λ _. ⌜ now (made .exit) ≡ length (fileKey (now (file .entry))) ⌝ }
+    ensures { λ _. ⌜ now (out .exit) ≡ putFront (fileKey (now (file .entry))) (now (out .entry)) ⌝ }
+{
+    let answer = header_test(file);
+    let characters = key(file);
+    *place = place_of(answer);
+    *made = characters.len() as u64;
+    put_front(out, characters);
+    number_of(answer)
+}
+
+fn number_at(numbers: &[u64], i: usize) -> usize
+    ensures { λ r. ⌜ r ≡ getD (now (numbers .entry)) i 0 ⌝ }
+{
+    if i < numbers.len() {
+        numbers[i] as usize
+    } else {
+        0
+    }
+}
+
+fn stretch_from(numbers: &[u64], at: usize, size: usize) -> Stretch
+    ensures { λ r. ⌜ r ≡ stretchFrom (now (numbers .entry)) at size ⌝ }
+{
+    Stretch {
+        at: number_at(numbers, at),
+        size: number_at(numbers, size),
+    }
+}
+
+fn view_from(numbers: &[u64]) -> ReadView
+    ensures { λ r. ⌜ r ≡ viewFrom (now (numbers .entry)) ⌝ }
+{
+    ReadView {
+        place: 0,
+        name: stretch_from(numbers, 0, 1),
+        values: stretch_from(numbers, 2, 3),
+        increments: stretch_from(numbers, 4, 5),
+        bases: stretch_from(numbers, 6, 7),
+        qualities: stretch_from(numbers, 8, 9),
+        quality_left: number_at(numbers, 10),
+        quality_right: number_at(numbers, 11),
+        adapter_left: number_at(numbers, 12),
+        adapter_right: number_at(numbers, 13),
+    }
+}
+
+// The view by its numbers, as `viewFrom` has them.
+pub fn view_test_out(file: &[u8], view: &[u64], place: &mut u64) -> u64
+    ensures { λ r. ⌜ r ≡ numberOf (viewTest (now (file .entry)) (viewFrom (now (view .entry)))) ⌝ }
+    ensures { λ _. ⌜ now (place .exit) ≡ placeOf (viewTest (now (file .entry)) (viewFrom (now (view .entry)))) ⌝ }
+{
+    let answer = view_test(view_from(view), file);
+    *place = place_of(answer);
+    number_of(answer)
 }
 
 // The bases go to the front of `out` if it has room for them all; if not it stays as it is. `made` is how many they are in either case.

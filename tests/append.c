@@ -64,8 +64,8 @@ static void append(const Word *name) {
     size_t flows = words.length / 2;
     for (size_t i = 0; i < flows; i++)
         values[i] = (uint16_t)number_of(words.bytes + 2 * i, 2);
-    uint64_t number = h_append(buffer, ROOM, length, name->bytes, name->length, number_of(clips.bytes, CLIPS), values, flows,
-                               increments.bytes, increments.length, bases.bytes, bases.length, qualities.bytes,
+    uint64_t number = h_append(buffer, ROOM, length, name->bytes, name->length, number_of(clips.bytes, CLIPS), values,
+                               flows, increments.bytes, increments.length, bases.bytes, bases.length, qualities.bytes,
                                qualities.length, &place, &length);
     if (number != 0)
         fail("an append is refused", number);

@@ -12,7 +12,7 @@
 #include <time.h>
 #include <unistd.h>
 
-enum { MEGABYTE = 1000000, MOVES = 10, LEAST_ROUNDS = 3 };
+enum { MEGABYTE = 1000000, MOVES = 10, LEAST_ROUNDS = 3, NO_READ_LEFT = 33 };
 
 // What a row works on, and what its last call answered.
 typedef struct {
@@ -151,6 +151,20 @@ static void run_test(Case *c, const Calls *calls) { c->number = calls->test(c->b
 
 // The host's archive has fewer calls, and so the compiler may lay out the same test in another way.
 static void run_service_test(Case *c, const Calls *calls) { c->number = calls->service_test(c->buffer, c->file->length, &c->place); }
+
+// A step for each read, and one more, which finds none: the reads and their bases are counted.
+static void run_steps(Case *c, const Calls *calls) {
+    const uint8_t *file = c->buffer;
+    size_t n = c->file->length;
+    uint64_t at, passed, index_passed, start, name_length, bases, clips;
+    c->length = 0;
+    calls->fresh(file, n, &at, &passed, &index_passed);
+    while ((c->number = calls->step(file, n, &at, &passed, &index_passed, &c->place, &start, &name_length, &bases, &clips)) == 0)
+        c->length += bases;
+    c->count = passed;
+    if (c->number == NO_READ_LEFT && passed == c->file->reads)
+        c->number = 0;
+}
 
 static void run_list(Case *c, const Calls *calls) {
     c->number = calls->correct_list(c->buffer, c->room, c->file->length, c->list, c->list_size, &c->count, &c->place, &c->length);
@@ -323,6 +337,7 @@ static void file_rows(size_t bytes) {
 
     row("files", "whole-file test", bytes, "-", NULL, run_test, "memcpy", copy_file, &c);
     row("files", "whole-file test, by the service", bytes, "-", NULL, run_service_test, "memcpy", copy_file, &c);
+    row("files", "a step for each read", bytes, "-", NULL, run_steps, "memcpy", copy_file, &c);
     make_clip(record, &file, file.reads - 1);
     row("files", "clips of the last read", bytes, "-", NULL, run_correct, "memcpy", copy_file, &c);
     make_rename(record, first_name, NAME_LENGTH, other_name(0), NAME_LENGTH, 0);

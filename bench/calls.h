@@ -7,6 +7,9 @@
 typedef struct {
     uint64_t (*test)(const uint8_t *file, size_t n, uint64_t *place);
     uint64_t (*service_test)(const uint8_t *file, size_t n, uint64_t *place);
+    uint64_t (*fresh)(const uint8_t *file, size_t n, uint64_t *at, uint64_t *passed, uint64_t *index_passed);
+    uint64_t (*step)(const uint8_t *file, size_t n, uint64_t *at, uint64_t *passed, uint64_t *index_passed, uint64_t *place,
+                     uint64_t *read_start, uint64_t *name_length, uint64_t *bases, uint64_t *clips);
     uint64_t (*new_file)(uint8_t *buffer, size_t n, const uint8_t *flows, size_t f, const uint8_t *key, size_t k, uint64_t *place, uint64_t *length_after);
     uint64_t (*append)(uint8_t *buffer, size_t n, uint64_t file_length, const uint8_t *name, size_t l, uint64_t clips, const uint16_t *values, size_t f,
                        const uint8_t *increments, size_t a, const uint8_t *bases, size_t b, const uint8_t *qualities, size_t c, uint64_t *place,

@@ -46,11 +46,48 @@ static void same(const char *call) {
     exit(1);
 }
 
+static void differs(const char *call, const uint64_t *a, const uint64_t *b, int n) {
+    fprintf(stderr, "bench: %s differs, library and plain C:", call);
+    for (int i = 0; i < n; i++)
+        fprintf(stderr, " %llu %llu", (unsigned long long)a[i], (unsigned long long)b[i]);
+    fprintf(stderr, "\n");
+    exit(1);
+}
+
+// A step from this state: the number and all that it leaves. The library's next state is left in it.
+static uint64_t compare_step(const uint8_t *file, size_t n, uint64_t reader[3]) {
+    uint64_t o[2][9];
+    for (int i = 0; i < 2; i++) {
+        for (int k = 0; k < 9; k++)
+            o[i][k] = k < 3 ? reader[k] : 12345;
+        o[i][8] = both[i]->step(file, n, &o[i][0], &o[i][1], &o[i][2], &o[i][3], &o[i][4], &o[i][5], &o[i][6], &o[i][7]);
+    }
+    if (memcmp(o[0], o[1], sizeof o[0]) != 0)
+        differs("a step", o[0], o[1], 9);
+    compared++;
+    memcpy(reader, o[0], 3 * sizeof(uint64_t));
+    return o[0][8];
+}
+
+// The steps from a fresh reader to the first that stops; then from any state.
+static void compare_steps(const uint8_t *file, size_t n) {
+    uint64_t reader[2][3] = {{12345, 12345, 12345}, {12345, 12345, 12345}};
+    for (int i = 0; i < 2; i++)
+        both[i]->fresh(file, n, &reader[i][0], &reader[i][1], &reader[i][2]);
+    if (memcmp(reader[0], reader[1], sizeof reader[0]) != 0)
+        differs("a fresh reader", reader[0], reader[1], 3);
+    while (compare_step(file, n, reader[0]) == 0) {
+    }
+    uint64_t forged[3] = {8 * below(n / 8 + 3), below(9), below(3)};
+    compare_step(file, n, forged);
+}
+
 static void compare_test(const uint8_t *file, size_t n) {
     start(file, n);
     for (int i = 0; i < 2; i++)
         left[i].number = both[i]->test(left[i].first, n, &left[i].place);
     same("the whole-file test");
+    compare_steps(file, n);
 }
 
 static void compare_correct(const uint8_t *file, size_t n, size_t room, uint64_t length, const uint8_t *record, size_t r) {

@@ -203,6 +203,63 @@ uint64_t plain_test(const uint8_t *file, size_t n, uint64_t *place) {
     return answer.number;
 }
 
+// Reading on.
+
+uint64_t plain_fresh(const uint8_t *file, size_t n, uint64_t *at, uint64_t *passed, uint64_t *index_passed) {
+    Header h;
+    *at = header_test(file, n, &h).number == 0 ? h.length : 0;
+    *passed = 0;
+    *index_passed = 0;
+    return 0;
+}
+
+// The read behind the state; its end, and where it starts past an index.
+static Answer step_test(const uint8_t *s, size_t n, uint64_t at, uint64_t passed, bool *due, uint64_t *start, uint64_t *end) {
+    Header h;
+    Answer answer = header_test(s, n, &h);
+    if (answer.number != 0)
+        return answer;
+    if (at > n)
+        return refused(1, at);
+    *due = *due && is_declared(&h);
+    if (*due && at == h.index_offset) {
+        if (n - at < h.index_length)
+            return refused(1, at);
+        at += h.index_length;
+        *due = false;
+    }
+    *start = at;
+    if (passed < h.reads)
+        return read_test(s, n, at, h.flows, end);
+    if (*due)
+        return refused(13, 8);
+    if (at < n)
+        return refused(12, at);
+    return refused(33, at);
+}
+
+uint64_t plain_step(const uint8_t *file, size_t n, uint64_t *at, uint64_t *passed, uint64_t *index_passed, uint64_t *place, uint64_t *read_start,
+                    uint64_t *name_length, uint64_t *bases, uint64_t *clips) {
+    uint64_t start, end;
+    bool due = *index_passed == 0;
+    Answer answer = step_test(file, n, *at, *passed, &due, &start, &end);
+    *place = answer.place;
+    if (answer.number != 0) {
+        *index_passed = *index_passed != 0;
+        *read_start = *name_length = *bases = *clips = 0;
+        return answer.number;
+    }
+    // The index is passed also by a state that says so of a file without one.
+    *index_passed = *index_passed != 0 || start != *at;
+    *at = end;
+    *passed += 1;
+    *read_start = start;
+    *name_length = get16(file + start + 2);
+    *bases = get32(file + start + 4);
+    *clips = get64(file + start + 8);
+    return 0;
+}
+
 // Writing.
 
 uint64_t plain_new(uint8_t *buffer, size_t n, const uint8_t *flows, size_t f, const uint8_t *key, size_t k, uint64_t *place, uint64_t *length_after) {

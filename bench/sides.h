@@ -8,6 +8,9 @@
 
 #define CALLS_OF(side) \
     uint64_t side##_test(const uint8_t *file, size_t n, uint64_t *place); \
+    uint64_t side##_fresh(const uint8_t *file, size_t n, uint64_t *at, uint64_t *passed, uint64_t *index_passed); \
+    uint64_t side##_step(const uint8_t *file, size_t n, uint64_t *at, uint64_t *passed, uint64_t *index_passed, uint64_t *place, \
+        uint64_t *read_start, uint64_t *name_length, uint64_t *bases, uint64_t *clips); \
     uint64_t side##_new(uint8_t *buffer, size_t n, const uint8_t *flows, size_t f, const uint8_t *key, size_t k, uint64_t *place, \
         uint64_t *length_after); \
     uint64_t side##_append(uint8_t *buffer, size_t n, uint64_t file_length, const uint8_t *name, size_t l, uint64_t clips, const uint16_t *values, \

@@ -1,8 +1,9 @@
-//! Appends to files of about 4,294,967,295 reads, the most that a header can count: 31.
+//! Appends to files of about 4,294,967,295 reads, the most that a header can count: 31, or 25 where the
+//! file has an index too.
 //!
-//!     second-many-reads            the library appends to such a file; what it should answer is judged on
-//!                                  the header alone
-//!     second-many-reads whole      the second program appends to it too; then both append the last read
+//!     second-many-reads            the library appends to such a file, without an index and with one; what
+//!                                  it should answer is judged on the header alone
+//!     second-many-reads whole      the second program appends to them too; then both append the last read
 //!                                  that the count allows, and one more
 //!
 //! Such a file has 68.7 GB: without flows, bases and names a read has 16 bytes. They are addresses alone,
@@ -17,7 +18,7 @@ mod made;
 mod sff;
 mod writing;
 
-use comparing::{differ, same, Outcome};
+use comparing::{differ, same, Difference};
 use exports::LentRead;
 use lent::Lent;
 use made::Made;
@@ -30,6 +31,8 @@ const MOST_READS: u64 = 4_294_967_295;
 const HEADER: usize = 32;
 /// Name length, number of bases and clips are 0.
 const READ: [u8; 16] = [0, 16, 0, 0, 0, 0, 0, 0, 0, 0, 0, 0, 0, 0, 0, 0];
+/// The length of an index, of what stands around the file.
+const INDEX: u32 = 8;
 
 const PAGE: usize = 4096;
 /// What stands again and again. Some thousand times are far from the number of mappings that Linux allows.
@@ -107,8 +110,7 @@ impl Memory {
             close(file);
             let mut memory = Memory { start, piece };
             memory.part(0, PAGE).fill(AROUND);
-            let header = writing::header(b"", b"", (0, 0), reads as u32);
-            memory.part(PAGE, HEADER).copy_from_slice(&header);
+            memory.put_header((0, 0), reads);
             let end = memory.part(PAGE + PIECES, PAGE);
             end.fill(AROUND);
             if reads == MOST_READS {
@@ -116,6 +118,12 @@ impl Memory {
             }
             Ok(memory)
         }
+    }
+
+    /// A header without flows and key; of the index its offset and length.
+    fn put_header(&mut self, index: (u64, u32), reads: u64) {
+        let header = writing::header(b"", b"", index, reads as u32);
+        self.buffer(HEADER).copy_from_slice(&header);
     }
 
     /// These bytes of the whole, the first page being before the file.
@@ -193,8 +201,11 @@ fn library(memory: &mut Memory, room: u64, file_length: u64, read: &NewRead) -> 
     (made, lent.unchanged())
 }
 
+/// The number that was answered, if nothing differs.
+type Number = Result<u64, Difference>;
+
 /// A call in both programs: the answers, the memory and what was lent are compared.
-fn both(memories: &mut [Memory; 2], room: u64, file_length: u64, read: &NewRead) -> Outcome {
+fn both(memories: [&mut Memory; 2], room: u64, file_length: u64, read: &NewRead) -> Number {
     let [of_library, of_second] = memories;
     let second = |memory: &mut Memory| {
         Made::of(writing::append(
@@ -212,80 +223,97 @@ fn both(memories: &mut [Memory; 2], room: u64, file_length: u64, read: &NewRead)
 }
 
 /// The library's answer, and what it left in its memory.
-fn alike(made: Made, expected: Made, kept: bool, memory: &mut Memory, pages: Vec<u8>) -> Outcome {
+fn alike(made: Made, expected: Made, kept: bool, memory: &mut Memory, pages: Vec<u8>) -> Number {
     let number = made.number;
     same("append to very many reads", made, expected, &[])?;
     let now = memory.own_pages();
     if let Some(place) = (0..now.len()).find(|place| now[*place] != pages[*place]) {
         let bytes = format!("{} and not {}", now[place], pages[place]);
-        return differ(format!("byte {place} of header and end is {bytes}"), &[]);
+        differ(format!("byte {place} of header and end is {bytes}"), &[])?;
     }
     if !memory.pieces_unchanged() {
-        return differ("a byte between header and end changed".to_string(), &[]);
+        differ("a byte between header and end changed".to_string(), &[])?;
     }
     if !kept {
-        return differ("a list that should only be read changed".to_string(), &[]);
+        differ("a list that should only be read changed".to_string(), &[])?;
     }
     println!("append to very many reads: 1 alike; {number}: 1");
+    Ok(number)
+}
+
+/// How often each number was answered.
+type Numbers = BTreeMap<u64, u64>;
+
+/// An answer that both gave is counted, if it is also the one that document 01 asks for.
+fn counted(number: Number, asked: u64, numbers: &mut Numbers) -> Result<(), String> {
+    let number = number.map_err(|difference| difference.message)?;
+    if number != asked {
+        return Err(format!("both answer {number} and not {asked}"));
+    }
+    *numbers.entry(number).or_insert(0) += 1;
     Ok(())
 }
 
-/// 31 before all that can be said of the read and of the room.
-fn full(whole: bool) -> Result<BTreeMap<u64, u64>, String> {
+/// A wrong read, and no room for it: what is said of the file comes before both. The second program
+/// appends too if there is a memory for it.
+fn refused(memory: &mut Memory, of_second: Option<&mut Memory>, length: u64) -> Number {
+    if let Some(of_second) = of_second {
+        return both([memory, of_second], length, length, &WRONG);
+    }
+    let before = memory.own_pages();
+    let header = sff::test_header(memory.buffer(HEADER)).expect("a header");
+    let refusal = writing::test_read(&header, length, length, &WRONG).err();
+    let expected = Made::of(Written { refusal, length });
+    let (made, kept) = library(memory, length, length, &WRONG);
+    alike(made, expected, kept, memory, before)
+}
+
+/// 31 before all that can be said of the read and of the room, and 25 before 31. The index stands behind
+/// the last read: just the header and the file's length are others.
+fn full(whole: bool, numbers: &mut Numbers) -> Result<(), String> {
     let length = length_of(MOST_READS);
     let mut memory = Memory::new(MOST_READS)?;
-    let compared = if whole {
-        both(
-            &mut [memory, Memory::new(MOST_READS)?],
-            length,
-            length,
-            &WRONG,
-        )
-    } else {
-        let before = memory.own_pages();
-        let header = sff::test_header(memory.buffer(HEADER)).expect("a header");
-        let refusal = writing::test_read(&header, length, length, &WRONG).err();
-        let expected = Made::of(Written { refusal, length });
-        let (made, kept) = library(&mut memory, length, length, &WRONG);
-        alike(made, expected, kept, &mut memory, before)
-    };
-    compared.map_err(|difference| difference.message)?;
-    Ok(BTreeMap::from([(31, 1)]))
+    let mut of_second = whole.then(|| Memory::new(MOST_READS)).transpose()?;
+    let number = refused(&mut memory, of_second.as_mut(), length);
+    counted(number, 31, numbers)?;
+    memory.put_header((length, INDEX), MOST_READS);
+    if let Some(of_second) = &mut of_second {
+        of_second.put_header((length, INDEX), MOST_READS);
+    }
+    let with_index = length + u64::from(INDEX);
+    let number = refused(&mut memory, of_second.as_mut(), with_index);
+    counted(number, 25, numbers)
 }
 
 /// The last read that the count allows, in just the room that it needs; then the next.
-fn last() -> Result<BTreeMap<u64, u64>, String> {
+fn last(numbers: &mut Numbers) -> Result<(), String> {
     let (length, room) = (length_of(MOST_READS - 1), length_of(MOST_READS));
-    let mut memories = [Memory::new(MOST_READS - 1)?, Memory::new(MOST_READS - 1)?];
-    for file_length in [length, room] {
-        let compared = both(&mut memories, room, file_length, &EMPTY);
-        compared.map_err(|difference| difference.message)?;
+    let mut memory = Memory::new(MOST_READS - 1)?;
+    let mut of_second = Memory::new(MOST_READS - 1)?;
+    for (file_length, asked) in [(length, 0), (room, 31)] {
+        let number = both([&mut memory, &mut of_second], room, file_length, &EMPTY);
+        counted(number, asked, numbers)?;
     }
     // Both programs could have left the same wrong bytes.
-    let [memory, _] = &mut memories;
     let of_count = memory.buffer(HEADER)[20..24].to_vec();
     let of_end = memory.part(PAGE + PIECES, 17).to_vec();
     if of_count != [255; 4] || of_end[..16] != READ || of_end[16] != AROUND {
         return Err(format!("the last read left {of_count:?} and {of_end:?}"));
     }
-    Ok(BTreeMap::from([(0, 1), (31, 1)]))
+    Ok(())
 }
 
 fn main() {
     let arguments: Vec<String> = std::env::args().skip(1).collect();
     let words: Vec<&str> = arguments.iter().map(String::as_str).collect();
+    let mut numbers = Numbers::new();
     let done = match words[..] {
-        [] => full(false),
-        ["whole"] => full(true).and_then(|mut numbers| {
-            for (number, count) in last()? {
-                *numbers.entry(number).or_insert(0) += count;
-            }
-            Ok(numbers)
-        }),
+        [] => full(false, &mut numbers),
+        ["whole"] => full(true, &mut numbers).and_then(|()| last(&mut numbers)),
         _ => Err("usage: second-many-reads [whole]".to_string()),
     };
     match done {
-        Ok(numbers) => println!("{}", counts::line_of_numbers(&numbers)),
+        Ok(()) => println!("{}", counts::line_of_numbers(&numbers)),
         Err(message) => {
             eprintln!("{message}");
             exit(1);

@@ -8,6 +8,7 @@ use crate::inputs::{
     positions, read, valid, Index, Model, Random, Read,
 };
 use crate::sff::Reader;
+use crate::views::View;
 use crate::writing::NewRead;
 
 // Files, positions and states.
@@ -119,6 +120,77 @@ pub fn state(random: &mut Random, file: &[u8], met: &[Reader]) -> Reader {
         state.passed_index = !state.passed_index;
     }
     state
+}
+
+/// A view that is none of these, which steps gave, as numbers: places and sizes around the file's end, sums beyond 64
+/// bits, clips around N. One list in 20 is longer or shorter than a view.
+pub fn view(random: &mut Random, file: &[u8], met: &[View]) -> Vec<u64> {
+    let none = View::given(&[]);
+    let mut view = if met.is_empty() || random.one_in(8) {
+        none
+    } else {
+        random.pick(met)
+    };
+    for _ in 0..random.pick(&[0, 1, 1, 2, 5]) {
+        let part = random.below(5);
+        view.parts[part] = stretch(random, file.len() as u64, view.parts[part]);
+    }
+    let bases = view.parts[3].1;
+    if random.one_in(2) {
+        let rights = around(random, bases);
+        view.clips[1] = rights;
+        view.clips[3] = rights;
+    }
+    for _ in 0..random.below(3) {
+        view.clips[random.below(4)] = around(random, bases);
+    }
+    let mut numbers = view.numbers();
+    if random.one_in(20) {
+        numbers.resize(random.below(17), 1);
+    }
+    numbers
+}
+
+/// A stretch at another place or of another size, in a file of this length.
+fn stretch(random: &mut Random, length: u64, (at, size): (u64, u64)) -> (u64, u64) {
+    let inside = random.next() % (length + 1);
+    match random.below(12) {
+        0 => (length.saturating_sub(size), size),
+        1 => (length.saturating_sub(size) + 1, size),
+        2 => (inside, length - inside),
+        3 => (inside, length - inside + 1),
+        4 => (random.pick(&[length, length + 1, 1 << 32, 1 << 63]), size),
+        5 => (random.pick(&[length, length + 1, u64::MAX]), 0),
+        // the sum is 2^64 or a little more or less
+        6 => (0_u64.wrapping_sub(size), size),
+        7 => (u64::MAX - random.next() % 9, random.next() % 18),
+        8 => (inside, 0_u64.wrapping_sub(inside)),
+        9 => (inside, u64::MAX - random.next() % (inside + 2)),
+        10 => (
+            at,
+            random.pick(&[0, size.wrapping_add(1), size.saturating_sub(1), 1 << 32]),
+        ),
+        _ => (
+            random.pick(&[0, at.wrapping_add(1), at.saturating_sub(1)]),
+            size,
+        ),
+    }
+}
+
+/// A clip at, below or above the number of bases, or far from it.
+fn around(random: &mut Random, bases: u64) -> u64 {
+    let inside = random.next() % bases.saturating_add(1).max(1);
+    random.pick(&[
+        0,
+        1,
+        inside,
+        bases.saturating_sub(1),
+        bases,
+        bases.saturating_add(1),
+        bases.saturating_add(1),
+        65_535,
+        u64::MAX,
+    ])
 }
 
 // Rooms and buffers.

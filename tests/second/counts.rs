@@ -30,6 +30,23 @@ pub const OF_A_FILE: [&str; 21] = [
     "13",
 ];
 
+/// What the header's test can answer where its characters are asked for, which may be none.
+pub const OF_CHARACTERS: [&str; 10] = [
+    "0", "0 empty", "1 header", "2", "3", "4", "5 header", "6 header", "7 header", "8",
+];
+
+/// What the test of a view can answer: of one that a step gave, 0; of a forged one, 0 too or 1 for one of its parts.
+pub const OF_VIEW: [&str; 8] = [
+    "0",
+    "0 forged",
+    "1 name",
+    "1 values",
+    "1 increments",
+    "1 bases",
+    "1 qualities",
+    "1 insert",
+];
+
 /// What a new file can answer, and what an append can beside the file's answers. 31 is missing: it takes
 /// a file of its own (`many_reads`).
 pub const OF_NEW: [&str; 4] = ["0", "5 given", "6 given", "26"];

@@ -8,6 +8,11 @@ use crate::made::Made;
 #[rustfmt::skip]
 extern "C" {
     fn h_test(file: *const u8, n: usize, place: *mut u64) -> u64;
+    fn h_flow_characters(
+        file: *const u8, n: usize, out: *mut u8, room: usize, place: *mut u64, made: *mut u64,
+    ) -> u64;
+    fn h_key(file: *const u8, n: usize, out: *mut u8, room: usize, place: *mut u64, made: *mut u64) -> u64;
+    fn h_view_test(file: *const u8, n: usize, view: *const u64, numbers: usize, place: *mut u64) -> u64;
     fn h_fresh(file: *const u8, n: usize, at: *mut u64, passed: *mut u64, index_passed: *mut u64) -> u64;
     fn h_step(
         file: *const u8, n: usize, at: *mut u64, passed: *mut u64, index_passed: *mut u64, place: *mut u64,
@@ -43,6 +48,58 @@ extern "C" {
 pub fn test(file: &Lent<u8>) -> (u64, u64) {
     let mut place = Number::unset();
     let number = unsafe { h_test(file.pointer(), file.len(), place.pointer()) };
+    (number, place.now())
+}
+
+/// What a call leaves that copies characters of the header to the front of a buffer.
+#[derive(Debug, PartialEq)]
+pub struct Copied {
+    pub number: u64,
+    pub place: u64,
+    pub made: u64,
+}
+
+type Copying = unsafe extern "C" fn(*const u8, usize, *mut u8, usize, *mut u64, *mut u64) -> u64;
+
+fn copied(export: Copying, file: &Lent<u8>, out: &mut Lent<u8>) -> Copied {
+    let [mut place, mut made] = [0; 2].map(|_| Number::unset());
+    let number = unsafe {
+        export(
+            file.pointer(),
+            file.len(),
+            out.pointer_to_write(),
+            out.len(),
+            place.pointer(),
+            made.pointer(),
+        )
+    };
+    Copied {
+        number,
+        place: place.now(),
+        made: made.now(),
+    }
+}
+
+pub fn flow_characters(file: &Lent<u8>, out: &mut Lent<u8>) -> Copied {
+    copied(h_flow_characters, file, out)
+}
+
+pub fn key(file: &Lent<u8>, out: &mut Lent<u8>) -> Copied {
+    copied(h_key, file, out)
+}
+
+/// The test of a view that is given as numbers (`views`).
+pub fn view_test(file: &Lent<u8>, view: &Lent<u64>) -> (u64, u64) {
+    let mut place = Number::unset();
+    let number = unsafe {
+        h_view_test(
+            file.pointer(),
+            file.len(),
+            view.pointer(),
+            view.len(),
+            place.pointer(),
+        )
+    };
     (number, place.now())
 }
 

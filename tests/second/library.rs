@@ -21,16 +21,18 @@ mod reading;
 mod running;
 mod sff;
 mod shared_calls;
+mod views;
 mod writing;
 
 use comparing::{begins, differ, holds, same, unchanged, Choices, Difference, Outcome};
 use counts::Counts;
-use exports::{Inserted, LentRead, State, Stepped, Summed};
+use exports::{Copied, Inserted, LentRead, State, Stepped, Summed};
 use lent::Lent;
 use library_corrections::Lists;
 use made::Made;
-use sff::{numbers, Reader};
+use sff::{numbers, Header, Reader};
 use shared_calls::{Corrected, Tests};
+use views::View;
 use writing::NewRead;
 
 fn main() {
@@ -141,13 +143,41 @@ fn lend_read(choices: &mut Choices, read: &NewRead) -> LentRead {
     }
 }
 
-/// One step; the next state if it gives a read.
+/// A buffer whose length lies around that of these bytes, before and after they are copied to its front. Where they do
+/// not fit, nothing is copied.
+fn around(choices: &mut Choices, bytes: &[u8]) -> (Vec<u8>, Vec<u8>) {
+    let length = bytes.len();
+    let room = choices
+        .random
+        .pick(&[0, length, length, length + 1, length + 40]);
+    let room = if choices.random.one_in(4) {
+        length.saturating_sub(1)
+    } else {
+        room
+    };
+    let before = choices.random.bytes(room);
+    let mut after = before.clone();
+    if length <= room {
+        after[..length].copy_from_slice(bytes);
+    }
+    (before, after)
+}
+
+/// The name of an answer with bytes, which may be none.
+fn name_with(refusal: Option<sff::Refusal>, bytes: &[u8]) -> String {
+    if refusal.is_none() && bytes.is_empty() {
+        return "0 empty".to_string();
+    }
+    counts::name(refusal)
+}
+
+/// One step; the next state and the read's view if it gives a read.
 fn step(
     file: &[u8],
     lent: &Lent<u8>,
     reader: Reader,
     answers: &mut Counts,
-) -> Result<Option<Reader>, Difference> {
+) -> Result<Option<(Reader, View)>, Difference> {
     let step = reader.step(file);
     let (number, place) = numbers(step.refusal);
     let read = step.read;
@@ -164,15 +194,18 @@ fn step(
     let library = exports::step(lent, state(reader));
     same(&call, library, second, &[("file", file)])?;
     answers.add(&counts::name(step.refusal));
-    Ok(read.map(|_| step.state))
+    Ok(read.map(|read| (step.state, View::of(&read))))
 }
 
 /// How often each answer of each call occurred.
 struct Comparison {
     tests: Tests,
+    flow_characters: Counts,
+    key: Counts,
     fresh: Counts,
     step: Counts,
     forged_step: Counts,
+    view: Counts,
     insert: Counts,
     signal: Counts,
     new: Counts,
@@ -185,10 +218,13 @@ impl running::Comparison for Comparison {
     fn new() -> Comparison {
         Comparison {
             tests: Tests::new(),
+            flow_characters: Counts::new(false, &counts::OF_CHARACTERS),
+            key: Counts::new(false, &counts::OF_CHARACTERS),
             fresh: Counts::new(false, &["0 at the header's end", "0 at the front"]),
             step: Counts::new(true, &["33"]),
             // 1 alone: the state's place is beyond the file.
             forged_step: Counts::new(true, &["1", "33"]),
+            view: Counts::new(false, &counts::OF_VIEW),
             insert: Counts::new(true, &["0 empty", "21"]),
             signal: Counts::new(true, &["21", "32"]),
             new: Counts::new(false, &counts::OF_NEW),
@@ -201,9 +237,12 @@ impl running::Comparison for Comparison {
     fn answers(&mut self) -> Vec<(&'static str, &mut Counts)> {
         vec![
             ("test", &mut self.tests.answers),
+            ("flow characters", &mut self.flow_characters),
+            ("key", &mut self.key),
             ("fresh", &mut self.fresh),
             ("step", &mut self.step),
             ("step, forged state", &mut self.forged_step),
+            ("view", &mut self.view),
             ("insert", &mut self.insert),
             ("signal", &mut self.signal),
             ("new", &mut self.new),
@@ -227,7 +266,9 @@ impl running::Comparison for Comparison {
         let lent = choices.lend(&file, 1);
         let tested = sff::test_file(&file);
         self.tests.case(exports::test, &file, &lent, &tested)?;
-        self.steps(&file, &lent, &mut choices)?;
+        self.characters(&file, &lent, &mut choices)?;
+        let met = self.steps(&file, &lent, &mut choices)?;
+        self.views(&file, &lent, &met, &mut choices)?;
         for _ in 0..3 {
             let position = calls::position(&mut choices.random, &file);
             self.insert(&file, &lent, position, &mut choices)?;
@@ -264,8 +305,84 @@ impl running::Comparison for Comparison {
 }
 
 impl Comparison {
-    /// From a fresh state to the end, and from some forged ones.
-    fn steps(&mut self, file: &[u8], lent: &Lent<u8>, choices: &mut Choices) -> Outcome {
+    /// The flow characters and the key.
+    fn characters(&mut self, file: &[u8], lent: &Lent<u8>, choices: &mut Choices) -> Outcome {
+        type Part = for<'a> fn(&Header<'a>) -> &'a [u8];
+        type Export = fn(&Lent<u8>, &mut Lent<u8>) -> Copied;
+        let calls: [(&str, Part, Export, &mut Counts); 2] = [
+            (
+                "flow characters",
+                |header| header.flows,
+                exports::flow_characters,
+                &mut self.flow_characters,
+            ),
+            ("key", |header| header.key, exports::key, &mut self.key),
+        ];
+        for (name, part, export, answers) in calls {
+            let (refusal, characters) = views::characters(file, part);
+            let (before, after) = around(choices, characters);
+            let mut out = choices.lend(&before, 9);
+            let (number, place) = numbers(refusal);
+            let second = Copied {
+                number,
+                place,
+                made: characters.len() as u64,
+            };
+            let call = format!("{name}, room {}", before.len());
+            let given = [("file", file), ("out", &before[..])];
+            same(&call, export(lent, &mut out), second, &given)?;
+            holds(&call, &out, &after, &given)?;
+            answers.add(&name_with(refusal, characters));
+        }
+        Ok(())
+    }
+
+    /// The test of each view that a step gave, and of some forged ones.
+    fn views(
+        &mut self,
+        file: &[u8],
+        lent: &Lent<u8>,
+        met: &[View],
+        choices: &mut Choices,
+    ) -> Outcome {
+        for view in met {
+            let tested = self.view(file, lent, &view.numbers(), choices)?;
+            same("a view that a step gave", Ok(()), tested, &[("file", file)])?;
+            self.view.add("0");
+        }
+        for _ in 0..6 {
+            let forged = calls::view(&mut choices.random, file, met);
+            match self.view(file, lent, &forged, choices)? {
+                Ok(()) => self.view.add("0 forged"),
+                Err(outside) => self.view.add(&format!("1 {}", outside.part)),
+            }
+        }
+        Ok(())
+    }
+
+    fn view(
+        &mut self,
+        file: &[u8],
+        lent: &Lent<u8>,
+        view: &[u64],
+        choices: &mut Choices,
+    ) -> Result<Result<(), views::Outside>, Difference> {
+        let tested = View::given(view).test(file);
+        let numbers = choices.lend(view, 1);
+        let call = format!("view {view:?}");
+        let library = exports::view_test(lent, &numbers);
+        same(&call, library, views::answer(&tested), &[("file", file)])?;
+        unchanged(&call, numbers.unchanged(), &[("file", file)])?;
+        Ok(tested)
+    }
+
+    /// From a fresh state to the end, and from some forged ones; the views of the reads that are found.
+    fn steps(
+        &mut self,
+        file: &[u8],
+        lent: &Lent<u8>,
+        choices: &mut Choices,
+    ) -> Result<Vec<View>, Difference> {
         let mut reader = Reader::fresh(file);
         same(
             "fresh",
@@ -278,15 +395,18 @@ impl Comparison {
             Err(_) => "0 at the front",
         });
         let mut met = vec![reader];
-        while let Some(next) = step(file, lent, reader, &mut self.step)? {
+        let mut views = vec![];
+        while let Some((next, view)) = step(file, lent, reader, &mut self.step)? {
             reader = next;
             met.push(reader);
+            views.push(view);
         }
         for _ in 0..6 {
             let forged = calls::state(&mut choices.random, file, &met);
-            step(file, lent, forged, &mut self.forged_step)?;
+            let found = step(file, lent, forged, &mut self.forged_step)?;
+            views.extend(found.map(|(_, view)| view));
         }
-        Ok(())
+        Ok(views)
     }
 
     fn insert(
@@ -297,22 +417,7 @@ impl Comparison {
         choices: &mut Choices,
     ) -> Outcome {
         let insert = reading::insert(file, position);
-        let length = insert.bases.len();
-        let room = choices
-            .random
-            .pick(&[0, length, length, length + 1, length + 40]);
-        let room = if choices.random.one_in(4) {
-            length.saturating_sub(1)
-        } else {
-            room
-        };
-        let before = choices.random.bytes(room);
-        // Where the insert does not fit, nothing is copied.
-        let mut after = before.clone();
-        if length <= room {
-            after[..length].copy_from_slice(insert.bases);
-        }
-
+        let (before, after) = around(choices, insert.bases);
         let mut out = choices.lend(&before, 9);
         let (number, place) = numbers(insert.refusal);
         let second = Inserted {
@@ -320,9 +425,9 @@ impl Comparison {
             place,
             first: insert.first,
             last: insert.last,
-            made: length as u64,
+            made: insert.bases.len() as u64,
         };
-        let call = format!("insert of {position}, room {room}");
+        let call = format!("insert of {position}, room {}", before.len());
         let given = [("file", file), ("out", &before[..])];
         same(
             &call,
@@ -331,13 +436,7 @@ impl Comparison {
             &given,
         )?;
         holds(&call, &out, &after, &given)?;
-        let is_empty = insert.refusal.is_none() && length == 0;
-        let name = if is_empty {
-            "0 empty".to_string()
-        } else {
-            counts::name(insert.refusal)
-        };
-        self.insert.add(&name);
+        self.insert.add(&name_with(insert.refusal, insert.bases));
         Ok(())
     }
 

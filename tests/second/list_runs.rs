@@ -14,6 +14,7 @@ mod plates;
 mod sample_lists;
 mod samples;
 mod sff;
+mod views;
 mod writing;
 
 use correcting::{correct_list, ListRun};

@@ -19,6 +19,7 @@ mod own_generated;
 mod reading;
 mod samples;
 mod sff;
+mod views;
 mod writing;
 
 use samples::{e_with, samples, E};

@@ -1,12 +1,13 @@
-//! The second implementation's own tests of the insert, the signal summary, a new file and an append,
-//! and of the inputs for these calls.
+//! The second implementation's own tests of the header's characters, the test of a view, the insert, the signal
+//! summary, a new file and an append, and of the inputs for these calls.
 
-use crate::calls::{append_call, build_call, new_call, position};
+use crate::calls::{self, append_call, build_call, new_call, position};
 use crate::counts::{self, Counts};
 use crate::inputs::{self, lay_out, Model, Read};
 use crate::reading::{insert, signal};
 use crate::samples::{e_with, samples, E};
 use crate::sff::{file_test, numbers, test_file, test_header};
+use crate::views::{answer, characters, View};
 use crate::writing::{append, new_file, test_read, NewRead, Written};
 
 const SEED: u64 = 454;
@@ -17,6 +18,147 @@ fn sample(name: &str) -> Vec<u8> {
         .find(|(known, _)| *known == name)
         .expect("a sample of that name")
         .1
+}
+
+// The header's characters, and the test of a view.
+
+#[test]
+fn characters_of_a_header() {
+    let both = |file: &[u8]| {
+        let (refusal, flows) = characters(file, |header| header.flows);
+        let (again, key) = characters(file, |header| header.key);
+        assert_eq!(refusal, again);
+        (numbers(refusal), flows.to_vec(), key.to_vec())
+    };
+    assert_eq!(both(&E), ((0, 0), b"TACG".to_vec(), b"T".to_vec()));
+    assert_eq!(both(&sample("bare")), ((0, 0), vec![], vec![]));
+    // a file that is refused behind its header, and headers that are refused
+    assert_eq!(both(&E[..41]), ((0, 0), b"TACG".to_vec(), b"T".to_vec()));
+    assert_eq!(both(&E[..39]), ((1, 0), vec![], vec![]));
+    assert_eq!(both(&e_with(35, b't')), ((6, 35), vec![], vec![]));
+    assert_eq!(both(&e_with(19, 8)), ((8, 8), vec![], vec![]));
+}
+
+/// E's read: 40 + 16 bytes before its name; its data section from 64 on.
+const E_VIEW: View = View {
+    parts: [(56, 2), (64, 8), (72, 3), (75, 3), (78, 3)],
+    clips: [2, 0, 0, 0],
+};
+
+#[test]
+fn views_of_e() {
+    let contents = test_file(&E).ok().expect("accepted");
+    assert_eq!(View::of(&contents.reads[0]), E_VIEW);
+    assert_eq!(View::given(&E_VIEW.numbers()), E_VIEW);
+    assert_eq!(E_VIEW.test(&E), Ok(()));
+    // the part that is changed, its stretch, the answer; the file has 88 bytes
+    let cases = [
+        (0, (86, 2), (0, 0)),
+        (0, (87, 2), (1, 87)),
+        (0, (88, 0), (0, 0)),
+        (0, (89, 0), (1, 89)),
+        (1, (0, 88), (0, 0)),
+        (1, (0, 89), (1, 0)),
+        (1, (u64::MAX, 1), (1, u64::MAX)),
+        (1, (1, u64::MAX), (1, 1)),
+        (2, (u64::MAX, u64::MAX), (1, u64::MAX)),
+        (3, (86, 3), (1, 86)),
+        (4, (u64::MAX - 2, 3), (1, u64::MAX - 2)),
+        (4, (85, 3), (0, 0)),
+    ];
+    for (part, stretch, expected) in cases {
+        let mut view = E_VIEW;
+        view.parts[part] = stretch;
+        assert_eq!(answer(&view.test(&E)), expected, "part {part}, {stretch:?}");
+    }
+    // "in file order": the first part that does not lie in the file
+    let mut view = E_VIEW;
+    view.parts[4] = (90, 1);
+    view.parts[2] = (100, 1);
+    assert_eq!(answer(&view.test(&E)), (1, 100));
+}
+
+/// 1 at the start of the bases where the insert is not empty and does not lie within them.
+#[test]
+fn inserts_of_any_view() {
+    // clips, answer; E's read has 3 bases
+    let cases = [
+        ([0, 3, 0, 3], (0, 0)),
+        ([0, 4, 0, 4], (1, 75)),
+        ([0, 4, 0, 3], (0, 0)),
+        ([0, 4, 0, 0], (0, 0)),
+        ([4, 4, 0, 4], (1, 75)),
+        ([5, 4, 0, 4], (0, 0)),
+        ([u64::MAX, 0, 0, 0], (0, 0)),
+        ([u64::MAX; 4], (1, 75)),
+        ([0, u64::MAX, u64::MAX, 9], (0, 0)),
+    ];
+    for (clips, expected) in cases {
+        let view = View { clips, ..E_VIEW };
+        assert_eq!(answer(&view.test(&E)), expected, "{clips:?}");
+    }
+    // the qualities come before the insert
+    let mut view = E_VIEW;
+    view.clips = [0, 4, 0, 4];
+    view.parts[4] = (86, 3);
+    assert_eq!(answer(&view.test(&E)), (1, 86));
+}
+
+/// The part of a forged view, so that each edge is met.
+#[test]
+fn every_edge_of_a_view_occurs_five_times() {
+    let mut random = inputs::Random::new(SEED);
+    let mut edges = Counts::new(false, &[]);
+    for number in 0..4_000 {
+        let file = calls::file(SEED, number);
+        let length = file.len() as u128;
+        let met: Vec<View> = match test_file(&file) {
+            Ok(contents) => contents.reads.iter().map(View::of).collect(),
+            Err(_) => vec![],
+        };
+        for view in &met {
+            assert_eq!(view.test(&file), Ok(()));
+        }
+        let numbers = calls::view(&mut random, &file, &met);
+        let view = View::given(&numbers);
+        let ends = view
+            .parts
+            .map(|(at, size)| u128::from(at) + u128::from(size));
+        let first = ends.iter().position(|end| *end > length);
+        let bases = view.parts[3].1;
+        let rights = [view.clips[1], view.clips[3]];
+        let insert = view.test(&file)
+            == Err(crate::views::Outside {
+                part: "insert",
+                place: view.parts[3].0,
+            });
+        let empty = view
+            .parts
+            .iter()
+            .any(|(at, size)| *size == 0 && u128::from(*at) == length + 1);
+        for (holds, edge) in [
+            (
+                first.is_none() && ends.contains(&length),
+                "ends with the file",
+            ),
+            (ends.contains(&(length + 1)), "ends a byte behind it"),
+            (ends.contains(&(1 << 64)), "ends at 2^64"),
+            (ends.iter().any(|end| *end > 1 << 64), "ends beyond 2^64"),
+            (empty, "empty, a byte behind the file's end"),
+            (insert, "an insert beyond the bases"),
+            (first.is_none() && rights == [bases; 2], "both rights N"),
+            (
+                insert && rights == [bases.wrapping_add(1); 2],
+                "both rights N + 1",
+            ),
+            (numbers.len() < 14, "fewer numbers"),
+            (numbers.len() > 14, "more numbers"),
+        ] {
+            edges.note(holds, edge);
+        }
+    }
+    println!("{}", edges.line());
+    assert!(edges.below(5).is_empty(), "{:?}", edges.below(5));
 }
 
 // The insert and the signal summary.

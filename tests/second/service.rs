@@ -17,6 +17,7 @@ mod running;
 mod service_exports;
 mod sff;
 mod shared_calls;
+mod views;
 mod writing;
 
 use comparing::{unchanged, Choices, Outcome};

@@ -109,7 +109,7 @@ samples-undo-encoding room room' precision s y fits carried = undo-after-encode-
 
 -- One record. The reasons in document 01's order are the table `reasonsAgainst`; the file afresh is `edited`, laid out.
 -- Code: `sff_corrector::correct`, and `service::sffstore_correct` over it.
--- Shuts out: a corrector that writes nothing (sff_correction/writes_nothing, sff_edit/clips_not_written, sff_edit/old_name_written), one that refuses everything (sff_corrector/refuses_everything), that compares the position alone (sff_correction/position_alone), that asks
+-- Shuts out: a corrector that writes nothing (sff_edit/writes_nothing, sff_correction/writes_nothing, sff_edit/clips_not_written, sff_edit/old_name_written), one that refuses everything (sff_corrector/refuses_everything), that compares the position alone (sff_correction/position_alone), that asks
 -- in another order (sff_correction/index_before_name), that overwrites reads not yet moved (splice/low_end_first), that leaves what is freed (splice/freed_bytes_left), that still counts a read taken out (sff_edit/count_not_lowered).
 pub record OneRecord (buffer : List ℕ) (len : ℕ) (r : List ℕ) : Type 0 where
   -- "carried out with 0 exactly when no reason to refuse holds"

@@ -12,7 +12,7 @@ returns c =
     let place = size .before .before .before .before .before in
     let number = place .before .before .before .before .before in
     let count = number .before .before .before .before .before in
-    four-all _ _ _ _ (search needs) (count .put-labelled-number .ensures) (number .put-labelled-number2 .ensures) (place .put-labelled-number3 .ensures) (size .put-labelled-number4 .ensures)
+    four-all _ _ _ _ (count .before .before .before .before .pre) (count .put-labelled-number .ensures) (number .put-labelled-number2 .ensures) (place .put-labelled-number3 .ensures) (size .put-labelled-number4 .ensures)
 
 pub put-answer-line-spec : {M : Type 1} → statement M
 unfolding answerLine

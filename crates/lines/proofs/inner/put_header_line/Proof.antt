@@ -11,7 +11,7 @@ returns c =
     let reads = c .before .before in
     let key = reads .before .before .before .before .before in
     let flows = key .before .before .before .before .before in
-    three-all _ _ _ (search needs) (flows .put-labelled-number .ensures) (key .put-labelled-word .ensures) (reads .put-labelled-number2 .ensures)
+    three-all _ _ _ (flows .before .before .before .before .before .pre) (flows .put-labelled-number .ensures) (key .put-labelled-word .ensures) (reads .put-labelled-number2 .ensures)
 
 pub put-header-line-spec : {M : Type 1} → statement M
 unfolding headerLine

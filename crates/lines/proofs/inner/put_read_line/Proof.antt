@@ -12,7 +12,7 @@ returns c =
     let extent = insert .before .before .before .before in
     let name = extent .before .before .before .before in
     let position = name .before .before .before .before in
-    four-all _ _ _ _ (search needs) (position .put-number-field .ensures) (name .put-word-field .ensures) (extent .put-extent .ensures) (insert .put-word-field2 .ensures)
+    four-all _ _ _ _ (position .before .before .before .before .before .pre) (position .put-number-field .ensures) (name .put-word-field .ensures) (extent .put-extent .ensures) (insert .put-word-field2 .ensures)
 
 pub put-read-line-spec : {M : Type 1} → statement M
 unfolding readLine

@@ -10,7 +10,7 @@ unfolding refusalLine
 returns c =
     let place = c .before .before in
     let number = place .before .before .before .before .before in
-    two-all _ _ (search needs) (number .put-labelled-number .ensures) (place .put-labelled-number2 .ensures)
+    two-all _ _ (number .before .before .before .before .pre) (number .put-labelled-number .ensures) (place .put-labelled-number2 .ensures)
 
 pub put-refusal-line-spec : {M : Type 1} → statement M
 unfolding refusalLine

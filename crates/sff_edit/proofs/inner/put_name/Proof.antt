@@ -25,11 +25,10 @@ returns : tie.Need-returns
 returns c =
     let a = old c .before .before .before .before .args in
     let n = padded c .before .wide .ensures .0 in
-    let size = padded c .up8 .ensures ∙ ap (λ (k : ℕ). up8 (16 + k)) n in
-    (
+    let size = padded c .up8 .ensures ∙ ap (λ (k : ℕ). up8 (16 + k)) n in (
       search needs,
       name-put (a .p) (a .len) (a .«record» .now) (a .buffer .now) (ap (λ (k : ℕ). k - 16) (old c .get16 .ensures .0)) n (ap (λ (k : ℕ). k - 16) size)
-      (name c .splice .ensures) (omega arith) (section-length c .put16 .ensures) (c .before .before .put162 .ensures),
+          (name c .splice .ensures) (omega arith) (section-length c .put16 .ensures) (c .before .before .put162 .ensures),
     )
 
 pub put-name-spec : {M : Type 1} → statement M

@@ -185,7 +185,7 @@ each-filter = record {
 -- what the file says, and `new` that with the record carried out.
 -- Code: `sff_corrector::correct`, and `service::sffstore_correct` over it.
 -- Shuts out:
---   a corrector that writes nothing (sff_correction/writes_nothing, sff_edit/clips_not_written, sff_edit/old_name_written)
+--   a corrector that writes nothing (sff_edit/writes_nothing, sff_correction/writes_nothing)
 --   one that refuses everything (sff_corrector/refuses_everything)
 --   one that compares the position alone (sff_correction/position_alone)
 --   one that asks in another order (sff_correction/index_before_name)

@@ -60,11 +60,6 @@ module _ (m : ℕ) (pos : zero < m) where
   below-deltas zero xs h = h
   below-deltas (suc k) xs h = below-delta (deltas m k xs)
 
-  pub below-undeltas : (k : ℕ) (xs : List ℕ) → Below m xs → Below m (undeltas m k xs)
-  unfolding undeltas
-  below-undeltas zero xs h = h
-  below-undeltas (suc k) xs h = below-undeltas k (undelta m xs) (below-undelta xs)
-
   -- every level: undone after done, and done after undone
   pub undeltas-deltas : (k : ℕ) (xs : List ℕ) → Below m xs → undeltas m k (deltas m k xs) ≡ xs
   unfolding deltas undeltas
@@ -75,6 +70,11 @@ module _ (m : ℕ) (pos : zero < m) where
   unfolding deltas undeltas
   deltas-undeltas zero xs h = refl
   deltas-undeltas (suc k) xs h = ap (delta m) (deltas-undeltas k (undelta m xs) (below-undelta xs)) ∙ delta-undelta xs h
+
+  pub below-undeltas : (k : ℕ) (xs : List ℕ) → Below m xs → Below m (undeltas m k xs)
+  unfolding undeltas
+  below-undeltas zero xs h = h
+  below-undeltas (suc k) xs h = below-undeltas k (undelta m xs) (below-undelta xs)
 
 pub length-deltas : (m k : ℕ) (xs : List ℕ) → length (deltas m k xs) ≡ length xs
 unfolding deltas

@@ -2,7 +2,7 @@
 use Prim.Native.Nat.{ℕ, _+_, _-_, _≤_, _<_}
 use mathlib.Core.Path.{_≡_, sym, ap, _∙_}
 use mathlib.Core.Bool.{true, false}
-use mathlib.Core.List.{List, _++_}
+use mathlib.Core.List.{List, [], _++_}
 use native.Mathlib.Omega.{arith}
 use borrow.Author.Tests.{eq-eqb, ne-eqb}
 use lib.ListN.{length, take}
@@ -42,6 +42,11 @@ pub name-put : (p len : ℕ) (r b : List ℕ) {old new n : ℕ} {s t u : List �
 unfolding renamedAt
 name-put p len r b {old} {new} {n} {s} {t} {u} o m w e h f g =
     g ∙ ap (putAt (p + 2) (bytesOf 2 n)) f ∙ put-lengths p (16 + new) n s h ∙ rw (e, o, m, w)
+
+-- a read taken out, in the order in which the code does it
+pub read-cut : (p size len : ℕ) (b : List ℕ) {reads : ℕ} {s t : List ℕ} → reads ≡ readCount b → s ≡ spliced p size len [] b → t ≡ putAt 20 (bytesOf 4 (reads - 1)) s → t ≡ removedAt p size len b
+unfolding removedAt
+read-cut p size len b e f g = g ∙ rw (e, f)
 
 -- An accepted file in a buffer, a well-formed record against which there is no reason, and the place of its read.
 pub record Ready (buffer : List ℕ) (len p : ℕ) (r : List ℕ) : Type 0 where

@@ -99,6 +99,9 @@ module _ {at : ℕ} (a b c : List ℕ) {l : List ℕ} (r : Room at (a ++ b ++ c)
       pub three-put : {l‴ : List ℕ} → l‴ ≡ putAt q c l″ → l‴ ≡ putAt at (a ++ b ++ c) l
       three-put g = two-put (a ++ b) c r (two-next a b (two-1 (a ++ b) c r) n e m) (two-put a b (two-1 (a ++ b) c r) n e f) g
 
+  pub three-all : {p q s : ℕ} {l′ l″ l‴ : List ℕ} → Wrote at a l l′ p → Wrote p b l′ l″ q → Wrote q c l″ l‴ s → Wrote at (a ++ b ++ c) l l‴ s
+  three-all u v w = two-all (a ++ b) c r (two-all a b (two-1 (a ++ b) c r) u v) w
+
 module _ {at : ℕ} (a b c d : List ℕ) {l : List ℕ} (r : Room at (a ++ b ++ c ++ d) l) where
   pub four-1 : Room at a l
   four-1 = three-1 a b c (two-1 (a ++ b ++ c) d r)
@@ -121,6 +124,9 @@ module _ {at : ℕ} (a b c d : List ℕ) {l : List ℕ} (r : Room at (a ++ b ++ 
         pub four-put : {l⁗ : List ℕ} → l⁗ ≡ putAt s d l‴ → l⁗ ≡ putAt at (a ++ b ++ c ++ d) l
         four-put h = two-put (a ++ b ++ c) d r (three-next a b c (two-1 (a ++ b ++ c) d r) n e m f o) (three-put a b c (two-1 (a ++ b ++ c) d r) n e m f g) h
 
+  pub four-all : {p q s t : ℕ} {l′ l″ l‴ l⁗ : List ℕ} → Wrote at a l l′ p → Wrote p b l′ l″ q → Wrote q c l″ l‴ s → Wrote s d l‴ l⁗ t → Wrote at (a ++ b ++ c ++ d) l l⁗ t
+  four-all u v w x = two-all (a ++ b ++ c) d r (three-all a b c (two-1 (a ++ b ++ c) d r) u v w) x
+
 -- what `search` needs for a function of two pieces, three, four; for the last room of three or four it may want `three-3` or `four-4` alone, since the set takes too many steps
 pub ruleset two = (two-1, two-2, two-next, two-put, needs)
 
@@ -134,8 +140,9 @@ module _ (xs : List ℕ) (e : length xs ≡ 0) where
   unfolding orDash
   dash = rw (eq-eqb (length xs) 0 e)
 
-  pub dash-room : {at : ℕ} {l : List ℕ} → Room at (orDash xs) l → Room at (45 ∷ []) l
-  dash-room r = rw dash at r
+  -- room for any byte
+  pub dash-room : {at x : ℕ} {l : List ℕ} → Room at (orDash xs) l → Room at (x ∷ []) l
+  dash-room r = let s = rw dash at r in record { fits = s .fits }
 
   pub dash-wrote : (at : ℕ) (l : List ℕ) {l′ : List ℕ} {p : ℕ} → Wrote at (45 ∷ []) l l′ p → Wrote at (orDash xs) l l′ p
   dash-wrote at l w = rw dash w

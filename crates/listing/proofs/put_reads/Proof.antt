@@ -1,5 +1,7 @@
+-- At each turn the lines of the reads passed are put, and those of the reads left are to come.
 use Prim.Native.Nat.{suc, _+_, _-_}
 use mathlib.Core.Path.{_≡_, sym}
+use mathlib.Core.Bool.{false}
 use native.Mathlib.Omega.{arith}
 use borrow.Author.Needs.{needs}
 use Rattle.octets.proofs.AllBytes.{bytes-of}
@@ -28,7 +30,9 @@ put-reads-spec =
     let e = d .pre .1 .0 in
     let n : h .reads - 0 ≡ h .reads = omega arith in
     let y = bytes-of (d .args .file .now) (λ j. c .before .shared-slice-known .given j .fits) in
-    rw (n, ← (reads-of h _ e), ← (length-of h _ e)) (listing-start _ _ _ y (d .pre .0) (d .pre .1 .1 .1)))
+    let start : Listing (d .args .file .now) (d .args .out .now) (d .args .at) 0 (h .reads - 0) (h .length) false (d .args .at) (d .args .out .now) =
+    rw (n, ← (reads-of h _ e), ← (length-of h _ e)) (listing-start _ _ _ y (d .pre .0) (d .pre .1 .1 .1)) in
+    start)
     (λ c κs. let d = c .before .before .before .before in (d .pre .1 .0, (d .pre .1 .1 .0, c .before .loop .inv .inside)))
     (λ c κs.
     let d = c .before .before .before .before .before in

@@ -1,8 +1,18 @@
+-- The pieces of an answer's line, each put at the place where the one before it ended.
 use Rattle.lines.specs.Lines.{answerLine}
 use borrow.Author.Needs.{needs}
-use Rattle.text.proofs.Writing.{four, four-3, four-4}
+use Rattle.text.proofs.Writing.{four, four-3, four-4, four-all}
 use Rattle.lines.proofs.inner.put_answer_line.Statement.{statement}
 use Rattle.lines.proofs.inner.put_answer_line.Tie as tie
+
+returns : tie.Need-returns
+unfolding answerLine
+returns c =
+    let size = c .before .before in
+    let place = size .before .before .before .before .before in
+    let number = place .before .before .before .before .before in
+    let count = number .before .before .before .before .before in
+    four-all _ _ _ _ (count .before .before .before .before .pre) (count .put-labelled-number .ensures) (number .put-labelled-number2 .ensures) (place .put-labelled-number3 .ensures) (size .put-labelled-number4 .ensures)
 
 pub put-answer-line-spec : {M : Type 1} → statement M
 unfolding answerLine
@@ -18,4 +28,4 @@ put-answer-line-spec =
     (λ c. search needs)
     (λ c κs. search four-4)
     (λ c. search needs)
-    (λ c. search four))
+    returns)

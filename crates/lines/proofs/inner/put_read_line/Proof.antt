@@ -1,9 +1,19 @@
+-- The pieces of a read's line, each put at the place where the one before it ended.
 use Rattle.lines.specs.Lines.{readLine}
 use borrow.Author.Needs.{needs}
-use Rattle.text.proofs.Writing.{four, four-4}
+use Rattle.text.proofs.Writing.{four, four-4, four-all}
 use Rattle.lines.proofs.inner.put_read_line.Statement.{statement}
 use Rattle.lines.proofs.inner.put_read_line.Tie as tie
 
+returns : tie.Need-returns
+unfolding readLine
+returns c =
+    let insert = c .before .before in
+    let extent = insert .before .before .before .before in
+    let name = extent .before .before .before .before in
+    let position = name .before .before .before .before in
+    four-all _ _ _ _ (position .before .before .before .before .before .pre) (position .put-number-field .ensures) (name .put-word-field .ensures) (extent .put-extent .ensures) (insert .put-word-field2 .ensures)
+
 pub put-read-line-spec : {M : Type 1} → statement M
 unfolding readLine
-put-read-line-spec = tie.close (tie.spec (λ c κs. search four) (λ c κs. search four) (λ c κs. search four) (λ c κs. search four-4) (λ c. search needs) (λ c. search four))
+put-read-line-spec = tie.close (tie.spec (λ c κs. search four) (λ c κs. search four) (λ c κs. search four) (λ c κs. search four-4) (λ c. search needs) returns)

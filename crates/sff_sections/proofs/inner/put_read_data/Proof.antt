@@ -1,7 +1,18 @@
+-- The four parts in file order, each behind the one before it, and zeros behind them.
 use Rattle.sff_sections.proofs.Pieces.{data-put}
 use borrow.Author.Needs.{needs}
 use Rattle.sff_sections.proofs.inner.put_read_data.Statement.{statement}
 use Rattle.sff_sections.proofs.inner.put_read_data.Tie as tie
+
+returns : tie.Need-returns
+returns c =
+    let padding = c .before .before in
+    let qualities = padding .before .before .before .before in
+    let bases = qualities .before .before .before .before in
+    let increments = bases .before .before .before .before in
+    let values = increments .before .before .before .before in
+    let asked = values .before .before .before .before .before .before .before .pre in
+    data-put _ _ _ _ _ _ (asked .1 .0) (asked .1 .1) (values .put-words .ensures) (increments .put-bytes .ensures) (bases .put-bytes2 .ensures) (qualities .put-bytes3 .ensures) (padding .put-padding .ensures) (asked .0)
 
 pub put-read-data-spec : {M : Type 1} → statement M
 put-read-data-spec =
@@ -22,4 +33,4 @@ put-read-data-spec =
     (λ c. search needs)
     (λ c κs. search needs)
     (λ c. search needs)
-    (λ c. search data-put))
+    returns)

@@ -1,5 +1,5 @@
--- Levels, zeros, differences and follow bytes in document 01's words, from the numbers alone: a slip that a definition and the
--- code make alike is refused here. And the long form of a small value, computed. Assumes nothing.
+-- Levels, zeros, differences and follow bytes in document 01's words, from the numbers alone: a slip that a
+-- definition and the code make alike is refused here. And the long form of a small value, computed. Assumes nothing.
 use mathlib.Core.Path.{_≡_, refl, ap, _∙_}
 use mathlib.Core.Bool.{Bool, true, false, not, _&&_, _||_}
 use mathlib.Core.Logic.{_⊎_, inl, inr, ⊎-elim}
@@ -28,7 +28,8 @@ use Rattle.filter_format.proofs.Scans.{sum-difference}
 use Rattle.filter_format.proofs.Results.{tested-ok, tested-makes}
 use Rattle.filter_format.proofs.Blocks.{header-fits, header-right}
 
--- "64, 65, 66: level byte .. (66: then two zeros), data in units of 1, 2, 4 bytes": a format, the width of its units, and where its data begin
+-- "64, 65, 66: level byte .. (66: then two zeros), data in units of 1, 2, 4 bytes": a format, the width of its units,
+-- and where its data begin
 abbrev pub DeltaFormat : ℕ → ℕ → ℕ → Type 0
 DeltaFormat format w start =
     ((format ≡ 64) × (w ≡ 1) × (start ≡ 2)) ⊎ (((format ≡ 65) × (w ≡ 2) × (start ≡ 2)) ⊎ ((format ≡ 66) × (w ≡ 4) × (start ≡ 4)))
@@ -153,7 +154,8 @@ module _ (room format w start level : ℕ) (follow s : List ℕ) (d : DeltaForma
       let x = delta-format format w start d in
       rw (tested-makes _ (encoded format level follow s) (tested-ok _ _ e), x .0, x .1)
 
--- "each unit less the one before, modulo the unit's range, the first less 0": added to the one before, it is the unit again
+-- "each unit less the one before, modulo the unit's range, the first less 0": added to the one before, it is the unit
+-- again
 scan-at : (out : ℕ → ℕ → ℕ) (p : ℕ) (xs : List ℕ) (j : ℕ) → j < length xs → getD (scan out latest p xs) j 0 ≡ out (getD (p ∷ xs) j 0) (getD xs j 0)
 unfolding scan
 scan-at out p [] j h = absurd (let a : ⊥ = omega arith in a)
@@ -179,7 +181,8 @@ pub delta-over : (m level : ℕ) (xs : List ℕ) → deltas m (suc level) xs ≡
 unfolding deltas
 delta-over m level xs = refl
 
--- "72: 256 follow bytes; first data byte as is, then follow[previous byte] less the byte, modulo 256": with the byte added, it is the follow byte again
+-- "72: 256 follow bytes; first data byte as is, then follow[previous byte] less the byte, modulo 256": with the byte
+-- added, it is the follow byte again
 pub follow-block : (room level : ℕ) (follow s : List ℕ) → encode room 72 level follow s .answer ≡ Accepted
     → (length follow ≡ 256) × (encode room 72 level follow s .bytes ≡ 72 ∷ (follow ++ followed follow s))
 unfolding encode encodeTest encoded badGiven headerRest encodedData filterOf

@@ -49,7 +49,7 @@ pub step-stop : (b : List ℕ) (s : State) (n p : ℕ) → stepTest b s ≡ Refu
 unfolding step concluded
 step-stop b s n p e = rw e
 
--- "A step that refuses, with 33 or any other number, gives back its state unmoved", and one that finds a read has passed one more
+-- "A step that refuses, with 33 or any other number, gives back its state unmoved", and one that finds a read has moved
 module _ (b : List ℕ) (s next : State) where
   pub stop-unmoved : (n p : ℕ) → step b s ≡ stop n p next → next ≡ s
   unfolding step concluded

@@ -44,7 +44,8 @@ tested : signalTest eBytes 0 ≡ Accepted
 unfolding bigEndianFrom number when _then_ positionTest signalTest
 tested = rw accepted
 
-pub signal-in-E : fileSignal eBytes 0 ≡ record { strongest = fin false 1 (pos 1); weakest = fin false 0 (pos 0); mean = fin false 3 (negsuc 1) }
+pub signal-in-E : fileSignal eBytes 0
+    ≡ record { strongest = fin false 1 (pos 1); weakest = fin false 0 (pos 0); mean = fin false 3 (negsuc 1) }
 signal-in-E = signal-is eBytes 0 tested ∙ ap (λ (f : File). summaryOf (readAt f 0 .values)) parsed ∙ example
 
 lines-of-E : fileLines e ≡ 102 ∷ 108 ∷ 111 ∷ 119 ∷ 115 ∷ 32 ∷ 52 ∷ 32 ∷ 107 ∷ 101 ∷ 121 ∷ 32 ∷ 84 ∷ 32 ∷ 114 ∷ 101 ∷ 97 ∷ 100 ∷ 115 ∷ 32 ∷ 49 ∷ 10

@@ -1,4 +1,5 @@
--- Sentences of document 01, "The file", in its order, as theorems over the definitions. The demands themselves are in `Demands`. Assumes nothing.
+-- Sentences of document 01, "The file", in its order, as theorems over the definitions. The demands themselves are in
+-- `Demands`. Assumes nothing.
 use Prim.Native.Nat.{ℕ, suc, _+_, _-_, _^_, _≤_, _<_}
 use mathlib.Core.Path.{_≡_}
 use mathlib.Core.Logic.{_↔_, _⊎_, ⊎-elim}
@@ -57,10 +58,13 @@ pub record ReadKeeps (characters : List ℕ) (r : Read) : Type 0 where
   pub quality-right : r .quality-right ≤ length (r .bases)
   pub adapter-left : r .adapter-left ≤ length (r .bases)
   pub adapter-right : r .adapter-right ≤ length (r .bases)
-  -- "Base i is the flow character at its flow, or the letter N": the flow character at its flow position, counted from 1, or 78
-  pub base : (j : ℕ) → j < length (r .bases) → (getD (r .bases) j 0 ≡ getD characters (flowPosition (r .increments) j - 1) 0) ⊎ (getD (r .bases) j 0 ≡ 78)
-  -- "The running sum after each base is its flow position; every flow position lies in 1 to F": that of base j, counted from 0, is the sum of the first j + 1 increments
-  pub flow : (j : ℕ) → j < length (r .bases) → (1 ≤ sum _+_ 0 (take (suc j) (r .increments))) × (sum _+_ 0 (take (suc j) (r .increments)) ≤ length characters)
+  -- "Base i is the flow character at its flow, or the letter N": that at its flow position, counted from 1, or 78
+  pub base : (j : ℕ) → j < length (r .bases)
+      → (getD (r .bases) j 0 ≡ getD characters (flowPosition (r .increments) j - 1) 0) ⊎ (getD (r .bases) j 0 ≡ 78)
+  -- "The running sum after each base is its flow position; every flow position lies in 1 to F": that of base j,
+  -- counted from 0, is the sum of the first j + 1 increments (`flowPosition`)
+  pub flow : (j : ℕ) → j < length (r .bases)
+      → (1 ≤ sum _+_ 0 (take (suc j) (r .increments))) × (sum _+_ 0 (take (suc j) (r .increments)) ≤ length characters)
 
 pub rules-of-read : (characters : List ℕ) (r : Read) → ValidRead characters r ↔ ReadKeeps characters r
 unfolding leftLimit rightLimit
@@ -113,7 +117,8 @@ pub record FileKeeps (f : File) : Type 0 where
   pub header-length : length (f .flow-characters) + length (f .key) ≤ 65497
   pub read-count : length (f .reads) ≤ 4294967295
   pub index-fits : (f .index .offset < 256 ^ 8) × (length (f .index .bytes) < 4294967296) × Bytes (f .index .bytes)
-  -- "An index is absent when offset and length are both 0", else none of "just one index field is 0, or index length under 8 or not a multiple of 8"
+  -- "An index is absent when offset and length are both 0", else none of "just one index field is 0, or index length
+  -- under 8 or not a multiple of 8"
   pub index : GoodIndex (f .index .offset) (length (f .index .bytes))
   -- "Otherwise its bytes, of any content, stand where the offset says, at the end of the header or of a read"
   pub index-stands : 0 < f .index .offset → Boundary f (f .index .offset)
@@ -123,37 +128,41 @@ pub record FileKeeps (f : File) : Type 0 where
   pub reads : (i : ℕ) → i < length (f .reads) → ReadKeeps (f .flow-characters) (readAt f i)
 
 pub rules-of-file : (f : File) → Valid f ↔ FileKeeps f
-rules-of-file f = (
-  λ v. record {
-    header-length = let h = v .header-fits in omega arith;
-    read-count = let h = v .count-fits in omega arith;
-    index-fits = v .index-fits;
-    index = index-fine (f .index .offset) (length (f .index .bytes)) .0 (v .index-good);
-    index-stands = λ h. v .index-met (declared-exactly (f .index .offset) (length (f .index .bytes)) .1 (λ z. let e = z .0 in omega arith));
-    flow-letters = λ j h. flow-character _ .0 (every-at isFlowCharacter (f .flow-characters) (every-left isFlowCharacter (f .flow-characters) (f .key) (v .characters-good)) j h);
-    key-letters = λ j h. flow-character _ .0 (every-at isFlowCharacter (f .key) (every-right isFlowCharacter (f .flow-characters) (f .key) (v .characters-good)) j h);
-    reads = λ i h. rules-of-read (f .flow-characters) (readAt f i) .0 (valid-at (f .flow-characters) (f .reads) i h (v .reads-good));
-  },
-  λ k. record {
-    characters-good =
-        every-both isFlowCharacter (f .flow-characters) (f .key)
-        (at-every isFlowCharacter (f .flow-characters) (λ j h. flow-character _ .1 (k .flow-letters j h)))
-        (at-every isFlowCharacter (f .key) (λ j h. flow-character _ .1 (k .key-letters j h)));
-    header-fits = let h = k .header-length in omega arith;
-    count-fits = let h = k .read-count in omega arith;
-    index-fits = k .index-fits;
-    index-good = index-fine (f .index .offset) (length (f .index .bytes)) .1 (k .index);
-    index-met = λ d. ⊎-elim (λ z. absurd (declared-exactly (f .index .offset) (length (f .index .bytes)) .0 d z)) (λ g. k .index-stands (g .0)) (k .index);
-    reads-good = each-valid (f .flow-characters) (f .reads) (λ i h. rules-of-read (f .flow-characters) (readAt f i) .1 (k .reads i h));
-  },
-)
+rules-of-file f =
+    let cs = f .flow-characters in
+    let o = f .index .offset in
+    let n = length (f .index .bytes) in (
+      λ v. record {
+        header-length = let h = v .header-fits in omega arith;
+        read-count = let h = v .count-fits in omega arith;
+        index-fits = v .index-fits;
+        index = index-fine o n .0 (v .index-good);
+        index-stands = λ h. v .index-met (declared-exactly o n .1 (λ z. let e = z .0 in omega arith));
+        flow-letters = λ j h. flow-character _ .0 (every-at isFlowCharacter cs (every-left isFlowCharacter cs (f .key) (v .characters-good)) j h);
+        key-letters = λ j h. flow-character _ .0 (every-at isFlowCharacter (f .key) (every-right isFlowCharacter cs (f .key) (v .characters-good)) j h);
+        reads = λ i h. rules-of-read cs (readAt f i) .0 (valid-at cs (f .reads) i h (v .reads-good));
+      },
+      λ k. record {
+        characters-good =
+            every-both isFlowCharacter cs (f .key) (at-every isFlowCharacter cs (λ j h. flow-character _ .1 (k .flow-letters j h)))
+            (at-every isFlowCharacter (f .key) (λ j h. flow-character _ .1 (k .key-letters j h)));
+        header-fits = let h = k .header-length in omega arith;
+        count-fits = let h = k .read-count in omega arith;
+        index-fits = k .index-fits;
+        index-good = index-fine o n .1 (k .index);
+        index-met = λ d. ⊎-elim (λ z. absurd (declared-exactly o n .0 d z)) (λ g. k .index-stands (g .0)) (k .index);
+        reads-good = each-valid cs (f .reads) (λ i h. rules-of-read cs (readAt f i) .1 (k .reads i h));
+      },
+    )
 
--- so a file is accepted exactly if it is, byte for byte, one that keeps the rules in these words, written afresh; and each read that it then says keeps them
+-- so a file is accepted exactly if it is, byte for byte, one that keeps the rules in these words, written afresh; and
+-- each read that it then says keeps them
 pub accepted-in-words : (b : List ℕ) → (Bytes b × (fileTest b ≡ Accepted)) ↔ ((f : File) × FileKeeps f × (layout f ≡ b))
 accepted-in-words b = (
   λ t. let x = accepted b .0 t in (x .0, rules-of-file (x .0) .0 (x .1), x .2),
   λ x. accepted b .1 (x .0, rules-of-file (x .0) .1 (x .1), x .2),
 )
 
-pub read-in-words : (b : List ℕ) → Bytes b → fileTest b ≡ Accepted → (i : ℕ) → i < readCount b → ReadKeeps (flowCharacters b) (readAt (parse b) i)
+pub read-in-words : (b : List ℕ) → Bytes b → fileTest b ≡ Accepted → (i : ℕ) → i < readCount b
+    → ReadKeeps (flowCharacters b) (readAt (parse b) i)
 read-in-words b y e i h = rules-of-read (flowCharacters b) (readAt (parse b) i) .0 (read-keeps b y e i h)

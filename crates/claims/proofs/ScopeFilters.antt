@@ -15,7 +15,7 @@ use Rattle.filter_format.proofs.Layers.{chain-after-encode, ninth-after-encode,
 use Rattle.filter_format.proofs.Eight.{under, eight-at-most}
 use Rattle.filter_format.proofs.Sampled.{encode-after-undo-samples}
 use Rattle.filter_format.proofs.Refusals.{layer-zero, encode-zero, undo-samples-zero, undo-none, layer-none, encode-none, encode-samples-none, undo-samples-none}
-use Rattle.filter_format.proofs.InWords.{DeltaFormat, level-opened, level-refused-alone, level-refused, level-encoded, level-not-encoded, long-form}
+use Rattle.filter_format.proofs.InWords.{DeltaFormat, level-opened, zeros-opened, level-refused, zeros-refused, level-encoded, level-not-encoded, long-form}
 
 -- FILTERED BLOCKS. "a filter the number of bytes it made (refused: 0)"
 pub refused-undo : (room : ℕ) (b : List ℕ) → (numberOf (undo room b .answer) ≡ 0 → ⊥) → filtered (undo room b) .made ≡ 0
@@ -33,23 +33,34 @@ refused-samples room precision s h = ap length (encode-samples-none room precisi
 pub refused-samples-back : (room precision : ℕ) (s : List ℕ) → (numberOf (undoSamples room precision s .answer) ≡ 0 → ⊥) → filtered (undoSamples room precision s) .made ≡ 0
 refused-samples-back room precision s h = ap length (undo-samples-none room precision s h)
 
--- "64, 65, 66: level byte, 1 to 3 here": a block that is opened has such a level, and any other level is 42 where the tests before it pass; d says of which format the block is, and where its data start
-pub level-of-block : (room start : ℕ) (b : List ℕ) → DeltaFormat (getD b 0 0) start → numberOf (undoLayer room b .answer) ≡ 0 → (1 ≤ getD b 1 0) × (getD b 1 0 ≤ 3)
-level-of-block room start b d carried = level-opened room start b d (layer-zero room b carried)
+-- "64, 65, 66: level byte, 1 to 3 here (66: then two zeros), data in units of 1, 2, 4 bytes". Of
+-- such a block, of units of w bytes whose data start at `start`: what is opened has such a level, and zeros; any
+-- other header is 42, where the tests before it pass
+pub level-of-block : (room w start : ℕ) (b : List ℕ) → DeltaFormat (getD b 0 0) w start → numberOf (undoLayer room b .answer) ≡ 0
+    → (1 ≤ getD b 1 0) × (getD b 1 0 ≤ 3) × (start ≡ 4 → (getD b 2 0 ≡ 0) × (getD b 3 0 ≡ 0))
+level-of-block room w start b d carried =
+    let a = layer-zero room b carried in
+    let l = level-opened room w start b d a in
+    (l .0, l .1, λ z. zeros-opened room w start b d z a)
 
-pub other-level-of-block : (room start : ℕ) (b : List ℕ) → DeltaFormat (getD b 0 0) start → start ≤ length b → (getD b 1 0 ≡ 0) ⊎ (3 < getD b 1 0)
-    → (undoLayer room b ≡ refusing (Refused 42 0)) × (undo room b ≡ refusing (Refused 42 0))
-other-level-of-block room start b d fits out = (level-refused-alone room start b d fits out, level-refused room start b d fits out)
+pub other-level-of-block : (room w start : ℕ) (b : List ℕ) → DeltaFormat (getD b 0 0) w start → start ≤ length b
+    → (getD b 1 0 ≡ 0) ⊎ (3 < getD b 1 0) → (undoLayer room b ≡ refusing (Refused 42 0)) × (undo room b ≡ refusing (Refused 42 0))
+other-level-of-block = level-refused
 
--- and so of a layer that is encoded
-pub level-given : (room format start level : ℕ) (follow s : List ℕ) → DeltaFormat format start → numberOf (encode room format level follow s .answer) ≡ 0 → (1 ≤ level) × (level ≤ 3)
-level-given room format start level follow s d carried = level-encoded room format start level follow s d (encode-zero room format level follow s carried)
+pub no-zeros-in-block : (room w start : ℕ) (b : List ℕ) → DeltaFormat (getD b 0 0) w start → start ≤ length b
+    → start ≡ 4 → (getD b 2 0 ≡ 0 → ⊥) ⊎ (getD b 3 0 ≡ 0 → ⊥) → (undoLayer room b ≡ refusing (Refused 42 0)) × (undo room b ≡ refusing (Refused 42 0))
+no-zeros-in-block = zeros-refused
 
-pub other-level-given : (room format start level : ℕ) (follow s : List ℕ) → DeltaFormat format start → (level ≡ 0) ⊎ (3 < level)
-    → encode room format level follow s ≡ refusing (Refused 42 0)
-other-level-given room format start level follow s d out = level-not-encoded room format start level follow s d out
+-- a layer that is made of data s has such a level; any other level is 42
+module _ (room format w start level : ℕ) (follow s : List ℕ) (d : DeltaFormat format w start) where
+  pub level-given : numberOf (encode room format level follow s .answer) ≡ 0 → (1 ≤ level) × (level ≤ 3)
+  level-given carried = level-encoded room format w start level follow s d (encode-zero room format level follow s carried)
 
--- "An opened layer hands its block to the choice of format, which opens the next layer, eight at most" (`filters::undo`): a layer that encoding made, where some may still be opened, and where none may
+  pub other-level-given : (level ≡ 0) ⊎ (3 < level) → encode room format level follow s ≡ refusing (Refused 42 0)
+  other-level-given = level-not-encoded room format w start level follow s d
+
+-- "An opened layer hands its block to the choice of format, which opens the next layer, eight at most"
+-- (`filters::undo`): a layer that encoding made, where some may still be opened, and where none may
 module _ (room room' format level : ℕ) (follow s : List ℕ) (y : Bytes s) (z : Bytes follow) (carried : numberOf (encode room format level follow s .answer) ≡ 0) (fits : length s ≤ room') where
   pub layer-in-chain : (left : ℕ) → undoFrom (suc left) room' (encode room format level follow s .bytes) ≡ undoFrom left room' s
   layer-in-chain left = chain-after-encode room room' format level follow s y z (encode-zero room format level follow s carried) fits left
@@ -61,17 +72,18 @@ module _ (room room' format level : ℕ) (follow s : List ℕ) (y : Bytes s) (z 
 pub eight-filters : (undo 32 (under 8 (0 ∷ 7 ∷ [])) ≡ making (7 ∷ [])) × (undo 32 (under 9 (0 ∷ 7 ∷ [])) ≡ refusing (Refused 44 0))
 eight-filters = eight-at-most
 
+-- SCF samples: encode after undo
+pub encoding-undoes-samples : (room room' precision : ℕ) (s : List ℕ) → Bytes s → length s ≤ room' → numberOf (undoSamples room precision s .answer) ≡ 0
+    → encodeSamples room' precision (undoSamples room precision s .bytes) ≡ making s
+encoding-undoes-samples room room' precision s y fits carried = encode-after-undo-samples room room' precision s y fits (undo-samples-zero room precision s carried)
+
 -- "Encode after undo returns the block for 64, 65, 66, 72 (same level and follow bytes)"
 pub encoding-undoes-filter : (room room' level : ℕ) (follow b : List ℕ) → Bytes b → numberOf (undoLayer room b .answer) ≡ 0 → SameFor (filterAt b) b level follow → length b ≤ room'
     → encode room' (getD b 0 0) level follow (undoLayer room b .bytes) ≡ making b
 encoding-undoes-filter room room' level follow b y carried same fits = encode-after-undo room room' level follow b y (layer-zero room b carried) same fits
 
--- "not for 70, 71, where a small value may stand in long form": 5 in long form is undone to the unit, and the unit is encoded in one byte
+-- "not for 70, 71, where a small value may stand in long form": 5 in long form is undone to the unit, and the unit is
+-- encoded in one byte
 pub long-form-lost : (undoLayer 8 (70 ∷ 128 ∷ 0 ∷ 5 ∷ []) ≡ making (0 ∷ 5 ∷ [])) × (encode 8 70 0 [] (0 ∷ 5 ∷ []) ≡ making (70 ∷ 5 ∷ []))
     × (undoLayer 8 (71 ∷ 128 ∷ 0 ∷ 0 ∷ 0 ∷ 5 ∷ []) ≡ making (0 ∷ 0 ∷ 0 ∷ 5 ∷ [])) × (encode 8 71 0 [] (0 ∷ 0 ∷ 0 ∷ 5 ∷ []) ≡ making (71 ∷ 5 ∷ []))
 long-form-lost = long-form
-
--- SCF samples: encode after undo
-pub encoding-undoes-samples : (room room' precision : ℕ) (s : List ℕ) → Bytes s → length s ≤ room' → numberOf (undoSamples room precision s .answer) ≡ 0
-    → encodeSamples room' precision (undoSamples room precision s .bytes) ≡ making s
-encoding-undoes-samples room room' precision s y fits carried = encode-after-undo-samples room room' precision s y fits (undo-samples-zero room precision s carried)

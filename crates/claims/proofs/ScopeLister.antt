@@ -1,4 +1,5 @@
--- Sentences of document 01 on what the lister prints, in its order, as theorems over the definitions (`listing::print`, whose room is enough for any of it). Text is bytes. Assumes nothing.
+-- Sentences of document 01 on what the lister prints, in its order, as theorems over the definitions
+-- (`listing::print`, whose room is enough for any of it). Text is bytes. Assumes nothing.
 use Prim.Native.Nat.{ℕ, _^_, _≤_, _<_}
 use mathlib.Core.Path.{_≡_, _∙_}
 use mathlib.Core.List.{List, [], _∷_, _++_, flatten}
@@ -24,7 +25,8 @@ pub text-of-E : printed eBytes ≡ 102 ∷ 108 ∷ 111 ∷ 119 ∷ 115 ∷ 32 �
     ∷ 48 ∷ 32 ∷ 114 ∷ 49 ∷ 32 ∷ 51 ∷ 32 ∷ 50 ∷ 32 ∷ 51 ∷ 32 ∷ 67 ∷ 67 ∷ 10 ∷ []
 text-of-E = text-in-E
 
--- "A read's line is position, name, N, first, last, insert": of an accepted file of at most 65,536 bytes the text is the header's line, as in E, then one line for each read, in order
+-- "A read's line is position, name, N, first, last, insert": of an accepted file of at most 65,536 bytes the text is
+-- the header's line, as in E, then one line for each read, in order
 pub record Listed (b : List ℕ) : Type 0 where
   pub lines : List (List ℕ)
   pub count : length lines ≡ length (parse b .reads)
@@ -44,7 +46,9 @@ text-of-file b h e = record {
   lines = linesOf 0 (parse b .reads);
   count = lines-counted 0 (parse b .reads);
   line = λ i l. rw zero-add at (line-at 0 (parse b .reads) i l) ∙ read-line i _ _ _ _ _;
-  text = printed-accepted b h e ∙ rw (header-line (length (parse b .flow-characters)) (parse b .key) (length (parse b .reads)), lines-together 0 (parse b .reads));
+  text =
+      printed-accepted b h e
+      ∙ rw (header-line (length (parse b .flow-characters)) (parse b .key) (length (parse b .reads)), lines-together 0 (parse b .reads));
 }
 
 -- the number that decimal digits spell is the number: every number in these lines is of 64 bits

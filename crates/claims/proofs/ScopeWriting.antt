@@ -1,4 +1,5 @@
--- Sentences of document 01, "Order of the file's tests", "Writing" and "Correction records", in its order, as theorems over the definitions. Assumes nothing.
+-- Sentences of document 01, "Order of the file's tests", "Writing" and "Correction records", in its order, as
+-- theorems over the definitions. Assumes nothing.
 use Prim.Native.Nat.{ℕ, _+_, _≤_, _<_, _%_}
 use mathlib.Core.Path.{_≡_, ap}
 use mathlib.Core.Bool.{false, true}
@@ -24,11 +25,13 @@ use Rattle.sff_format.proofs.Appends.{append-afresh, append-valid}
 use Rattle.sff_format.proofs.Refusals.{append-zero, written-zero}
 use Rattle.sff_format.proofs.InWords.{BadIndex, index-bad, header-index, header-eight}
 
--- ORDER OF THE FILE'S TESTS. 8 at 8: "just one index field is 0, or index length under 8 or not a multiple of 8" (`BadIndex`, where not both fields are 0)
+-- ORDER OF THE FILE'S TESTS. 8 at 8: "just one index field is 0, or index length under 8 or not a multiple of 8"
+-- (`BadIndex`, where not both fields are 0)
 pub bad-index-exactly : (offset len : ℕ) → (badIndex offset len ≡ true) ↔ BadIndex offset len
 bad-index-exactly = index-bad
 
--- 8 is answered of such an index alone, and at 8; the index of an accepted header is absent, or stands behind the header with a length of 8 or more that is a multiple of 8
+-- 8 is answered of such an index alone, and at 8; the index of an accepted header is absent, or has an offset and a
+-- length of 8 or more that is a multiple of 8
 pub header-answers-eight : (b : List ℕ) (p : ℕ) → headerTest b ≡ Refused 8 p → (p ≡ 8) × BadIndex (number 8 8 b) (number 4 16 b)
 header-answers-eight = header-eight
 
@@ -46,17 +49,20 @@ pub refused-append : (buffer : List ℕ) (len : ℕ) (r : Read) → (numberOf (a
 unfolding appendOutcome
 refused-append buffer len r h = refused-or _ _ _ h
 
--- WRITING. An append that is carried out leaves, at the front of the buffer, the file written afresh with one read more, which keeps the rules
+-- WRITING. An append that is carried out leaves, at the front of the buffer, the file written afresh with one read more,
+-- which keeps the rules
 pub appended-afresh : (buffer : List ℕ) (len : ℕ) (r : Read) → Bytes buffer → Lent r → appendTest buffer len r ≡ Accepted
     → (appendBuffer buffer len r ≡ putAt 0 (layout (withReads (parse (take len buffer) .reads ++ (r ∷ [])) (parse (take len buffer)))) buffer)
     × Valid (withReads (parse (take len buffer) .reads ++ (r ∷ [])) (parse (take len buffer)))
 appended-afresh buffer len r y t a = let z = bytes-take len buffer y in (append-afresh buffer len r z a, append-valid buffer len r z a t)
 
--- a read's own reasons, 30, 5, 6, 9, 10 and 11, hold exactly if no accepted file with these flow characters could hold it
+-- a read's own reasons, 30, 5, 6, 9, 10 and 11, hold exactly if no accepted file with these flow characters could
+-- hold it
 pub read-refused-exactly : (b : List ℕ) (r : Read) → Bytes b → fileTest b ≡ Accepted → Lent r → (givenTest (flowCharacters b) r ≡ Accepted) ↔ Holder (flowCharacters b) r
 read-refused-exactly = given-exactly
 
--- and so of the whole append, where the file has no index and fewer reads than the count can say, and the buffer has room
+-- and so of the whole append, where the file has no index and fewer reads than the count can say, and the buffer has
+-- room
 pub append-refuses-exactly : (buffer : List ℕ) (len : ℕ) (r : Read) → Bytes buffer → Lent r → len ≤ length buffer → fileTest (take len buffer) ≡ Accepted
     → declared (indexOffset (take len buffer)) (indexLength (take len buffer)) ≡ false → readCount (take len buffer) < 4294967295 → len + length (layoutRead r) ≤ length buffer
     → (numberOf (appendTest buffer len r) ≡ 0) ↔ Holder (flowCharacters (take len buffer)) r
@@ -64,7 +70,8 @@ append-refuses-exactly buffer len r y t h e i n m =
     let a = append-exactly buffer len r y t h e i n m in
     ((λ z. a .0 (append-zero buffer len r z)), (λ k. ap numberOf (a .1 k)))
 
--- CORRECTION RECORDS. "Writing afresh .. Without one, a new file and an append for each read leave these bytes in any buffer that holds them": the bytes at its front, all else as it was
+-- CORRECTION RECORDS. "Writing afresh .. Without one, a new file and an append for each read leave these bytes in any
+-- buffer that holds them": the bytes at its front, all else as it was
 pub written-afresh : (f : File) → f .index ≡ noIndex → Valid f → (buffer : List ℕ) → length (layout f) ≤ length buffer
     → writeEach buffer f ≡ record { outcome = record { answer = Accepted; length = length (layout f) }; buffer = putAt 0 (layout f) buffer }
 written-afresh = write-each

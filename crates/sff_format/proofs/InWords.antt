@@ -1,4 +1,5 @@
--- What the rules come to in document 01's words, from the numbers alone: a slip that a definition and the code make alike is refused here. Assumes nothing.
+-- What the rules come to in document 01's words, from the numbers alone: a slip that a definition and the code make
+-- alike is refused here. Assumes nothing.
 use Prim.Native.Nat.{ℕ, zero, suc, _+_, _-_, _%_, _≤_, _<_, max, min}
 use mathlib.Core.Path.{_≡_, refl, sym, ap, _∙_}
 use mathlib.Core.Bool.{Bool, true, false, cond, not, _&&_, _||_}
@@ -6,7 +7,7 @@ use mathlib.Core.Logic.{_↔_, _⊎_, inl, inr, ⊎-elim}
 use mathlib.Core.List.{List, [], _∷_, sum}
 use native.Mathlib.Omega.{arith}
 use native.Mathlib.Nat.{zero-add, add-zero}
-use borrow.Author.Tests.{ltb-true, ltb-false, le-ltb, leb-true, leb-false, le-leb, eqb-true, eqb-false, eq-eqb, ne-eqb, not-true, not-false}
+use borrow.Author.Tests.{ltb-true, ltb-false, le-ltb, leb-true, leb-false, le-leb, eqb-true, eqb-false, eq-eqb, ne-eqb, not-false}
 use lib.Dec.{ltb, leb, eqb}
 use lib.ListN.{length, take, getD}
 use Rattle.octets.specs.Parts.{up8}
@@ -82,7 +83,8 @@ at-walk F f (x ∷ xs) h =
     let t : isFlow F (f + x) ≡ true = in-flow F (f + x) (omega arith, omega arith) in
     rw t (ap suc (at-walk F (f + x) xs (λ j l. let m = h (suc j) (omega arith) in (omega arith, omega arith))))
 
-pub walk-exactly : (F : ℕ) (xs : List ℕ) → (walkRun F 0 xs ≡ length xs) ↔ ((j : ℕ) → j < length xs → (1 ≤ flowPosition xs j) × (flowPosition xs j ≤ F))
+pub walk-exactly : (F : ℕ) (xs : List ℕ)
+    → (walkRun F 0 xs ≡ length xs) ↔ ((j : ℕ) → j < length xs → (1 ≤ flowPosition xs j) × (flowPosition xs j ≤ F))
 walk-exactly F xs = (
   λ e j h. let k = walk-at F 0 xs e j h in (omega arith, omega arith),
   λ h. at-walk F 0 xs (λ j l. let k = h j l in (omega arith, omega arith)),
@@ -121,7 +123,8 @@ call-at characters f (x ∷ xs) (y ∷ ys) e (suc j) h =
     let m : f + x + flowPosition xs j ≡ f + (x + flowPosition xs j) = omega arith in
     rw m at k
 
-at-call : (characters : List ℕ) (f : ℕ) (xs ys : List ℕ) → length xs ≡ length ys → ((j : ℕ) → j < length xs → In (length characters) (f + flowPosition xs j))
+at-call : (characters : List ℕ) (f : ℕ) (xs ys : List ℕ) → length xs ≡ length ys
+    → ((j : ℕ) → j < length xs → In (length characters) (f + flowPosition xs j))
     → ((j : ℕ) → j < length ys → Called characters (f + flowPosition xs j) (getD ys j 0)) → callRun characters f xs ys ≡ length ys
 unfolding callRun sum
 at-call characters f [] [] l h k = refl
@@ -180,7 +183,8 @@ end-is n clip end h = go (eqb clip 0) refl
     go false e = sym (h .1 (eqb-false clip 0 e))
 
 -- "Last = min over both rights, a 0 read as N"
-pub last-is : (n q a e f : ℕ) → IsEnd n q e → IsEnd n a f → (lastBase n q a ≤ e) × (lastBase n q a ≤ f) × ((lastBase n q a ≡ e) ⊎ (lastBase n q a ≡ f))
+pub last-is : (n q a e f : ℕ) → IsEnd n q e → IsEnd n a f
+    → (lastBase n q a ≤ e) × (lastBase n q a ≤ f) × ((lastBase n q a ≡ e) ⊎ (lastBase n q a ≡ f))
 unfolding lastBase
 last-is n q a e f h k = rw (end-is n q e h, end-is n a f k) (omega arith, omega arith, min-is e f)
 
@@ -197,7 +201,8 @@ module _ {characters : List ℕ} {r : Read} (v : ValidRead characters r) where
   pub insert-empty : (length (insertOf r) ≡ 0) ↔ (insertLast r < insertFirst r)
   insert-empty = let s = insert-size in (λ e. omega arith, λ h. omega arith)
 
-pub insert-at : (r : Read) (j : ℕ) → insertFirst r + j ≤ insertLast r → getD (insertOf r) j 0 ≡ getD (r .bases) (insertFirst r + j - 1) 0
+pub insert-at : (r : Read) (j : ℕ) → insertFirst r + j ≤ insertLast r
+    → getD (insertOf r) j 0 ≡ getD (r .bases) (insertFirst r + j - 1) 0
 unfolding insertOf
 insert-at r j h =
     let o = first-least (r .quality-left) (r .adapter-left) in
@@ -218,14 +223,16 @@ pub index-fine : (offset len : ℕ) → (badIndex offset len ≡ false) ↔ Good
 unfolding badIndex badIndexLength declared
 index-fine offset len = (go (eqb offset 0) (eqb len 0) refl refl, ⊎-elim (λ h. rw (eq-eqb offset 0 (h .0), eq-eqb len 0 (h .1))) fine)
   where
-    go : (o l : Bool) → eqb offset 0 ≡ o → eqb len 0 ≡ l → (not (o && l) && (o || (ltb len 8 || not (eqb (len % 8) 0)))) ≡ false → GoodIndex offset len
+    go : (o l : Bool) → eqb offset 0 ≡ o → eqb len 0 ≡ l → (not (o && l) && (o || (ltb len 8 || not (eqb (len % 8) 0)))) ≡ false
+        → GoodIndex offset len
     go true true p q e = inl (eqb-true offset 0 p, eqb-true len 0 q)
     go true false p q e = not-both e
     go false l p q e =
         let n = eqb-false offset 0 p in
         inr (omega (arith, n), ltb-false len 8 (or-left _ _ e), eqb-true (len % 8) 0 (not-false _ (or-right (ltb len 8) _ e)))
 
-    fine : (0 < offset) × (8 ≤ len) × (len % 8 ≡ 0) → (not (eqb offset 0 && eqb len 0) && (eqb offset 0 || (ltb len 8 || not (eqb (len % 8) 0)))) ≡ false
+    fine : (0 < offset) × (8 ≤ len) × (len % 8 ≡ 0)
+        → (not (eqb offset 0 && eqb len 0) && (eqb offset 0 || (ltb len 8 || not (eqb (len % 8) 0)))) ≡ false
     fine h =
         let p : offset ≡ 0 → ⊥ = λ e. let g = h .0 in omega arith in
         rw (ne-eqb offset 0 p, le-ltb len 8 (h .1), eq-eqb (len % 8) 0 (h .2))
@@ -247,7 +254,13 @@ index-bad offset len = (bad, λ h. go (badIndex offset len) refl h)
 
     go : (t : Bool) → badIndex offset len ≡ t → BadIndex offset len → t ≡ true
     go true e h = refl
-    go false e h = absurd (⊎-elim (h .0) (λ g. ⊎-elim (λ z. omega (arith, g)) (⊎-elim (λ z. omega (arith, g)) (⊎-elim (λ z. omega (arith, g)) (λ z. z (g .2)))) (h .1)) (index-fine offset len .0 e))
+    go false e h = absurd (⊎-elim (h .0) (λ g. never g (h .1)) (index-fine offset len .0 e))
+      where
+        never : (0 < offset) × (8 ≤ len) × (len % 8 ≡ 0) → (offset ≡ 0) ⊎ ((len ≡ 0) ⊎ ((len < 8) ⊎ (len % 8 ≡ 0 → ⊥))) → ⊥
+        never g (inl z) = omega (arith, g)
+        never g (inr (inl z)) = omega (arith, g)
+        never g (inr (inr (inl z))) = omega (arith, g)
+        never g (inr (inr (inr z))) = z (g .2)
 
 -- "An index is absent when offset and length are both 0"
 pub declared-exactly : (offset len : ℕ) → (declared offset len ≡ true) ↔ (((offset ≡ 0) × (len ≡ 0)) → ⊥)
@@ -304,7 +317,8 @@ pub fresh-passed : (b : List ℕ) → (fresh b .passed-reads ≡ 0) × (fresh b 
 unfolding fresh
 fresh-passed b = (refl, refl)
 
-pub fresh-accepted : (b : List ℕ) → headerTest b ≡ Accepted → (fresh b .place ≡ headerLength b) × (fresh b .place ≡ up8 (31 + flows b + keyLength b))
+pub fresh-accepted : (b : List ℕ) → headerTest b ≡ Accepted
+    → (fresh b .place ≡ headerLength b) × (fresh b .place ≡ up8 (31 + flows b + keyLength b))
 unfolding fresh freshPlace
 fresh-accepted b e = rw e (refl, header-sized b e)
 
@@ -313,12 +327,14 @@ unfolding fresh freshPlace
 fresh-refused b n p e = rw e
 
 -- reads keep the rules exactly if each does
-pub each-valid : (characters : List ℕ) (rs : List Read) → ((i : ℕ) → i < length rs → ValidRead characters (getD rs i noRead)) → ValidReads characters rs
+pub each-valid : (characters : List ℕ) (rs : List Read)
+    → ((i : ℕ) → i < length rs → ValidRead characters (getD rs i noRead)) → ValidReads characters rs
 each-valid characters [] h = tt
 each-valid characters (r ∷ rs) h = (h 0 (omega arith), each-valid characters rs (λ i l. h (suc i) (omega arith)))
 
 -- each read of an accepted file keeps the rules
-pub read-keeps : (b : List ℕ) → Bytes b → fileTest b ≡ Accepted → (i : ℕ) → i < readCount b → ValidRead (flowCharacters b) (readAt (parse b) i)
+pub read-keeps : (b : List ℕ) → Bytes b → fileTest b ≡ Accepted → (i : ℕ) → i < readCount b
+    → ValidRead (flowCharacters b) (readAt (parse b) i)
 unfolding parse
 read-keeps b y e i h =
     valid-at (flowCharacters b) (parse b .reads) i (rw (reads-counted b) h) (file-valid b y e .reads-good)

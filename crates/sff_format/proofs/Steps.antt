@@ -77,7 +77,7 @@ module _ (b : List ℕ) (s : State) (e : stepTest b s ≡ Accepted) where
   pub read-accepted : readTest (flowCharacters b) b (boundary b s) ≡ Accepted
   read-accepted = read-accepted-or .1
 
--- "A step that refuses, with 33 or any other number, gives back its state unmoved", and one that finds a read has passed one more
+-- "A step that refuses, with 33 or any other number, gives back its state unmoved", and one that finds a read has moved
 module _ (b : List ℕ) (s next : State) where
   pub stop-unmoved : (n p : ℕ) → step b s ≡ stop n p next → next ≡ s
   unfolding step concluded

@@ -8,12 +8,10 @@ use borrow.Author.Needs.{needs}
 use borrow.Author.Tests.{not-true, not-false, leb-true, lt-ltb, le-ltb}
 use lib.Dec.{leb}
 use lib.ListN.{length, drop, getD}
-use Rattle.answers.specs.declared.Answer.{Answer}
 use Rattle.answers.specs.declared.Answer.the-variants.{Accepted, Refused}
-use Rattle.answers.specs.Answer.{when, stopped, _then_}
+use Rattle.answers.specs.Answer.{when, _then_}
 use Rattle.sff_format.specs.Rules.{isFlow, isCall, walkRun, callRun}
 use Rattle.sff_format.specs.ReadTest.{basesTest}
-use Rattle.sff_walk.specs.Bases.{wrongBase}
 use Rattle.sff_format.proofs.Loops.{walk-end, walk-stop, walk-on, calls-end, calls-stop, calls-on}
 
 -- a flow position that keeps the rule has both bounds
@@ -25,10 +23,6 @@ flow-in F x e = go (leb 1 x) (leb x F) refl refl e
     go true true g h i = (leb-true 1 x g, leb-true x F h)
     go true false g h i = absurd (let z : _≡_ {A = ℕ} 0 1 = cc in let a : ⊥ = omega arith in a)
     go false t g h i = absurd (let z : _≡_ {A = ℕ} 0 1 = cc in let a : ⊥ = omega arith in a)
-
-refused : {t : Bool} {n p : ℕ} → t ≡ true → when t n p ≡ Refused n p
-unfolding when
-refused e = rw e
 
 -- The invariant of a walk over the increments xs: what is sought from base position k₀ on is sought from k on.
 pub record Walked (F f₀ k₀ : ℕ) (xs : List ℕ) (k f : ℕ) : Type 0 where
@@ -59,18 +53,6 @@ module _ {F f₀ k₀ : ℕ} {xs : List ℕ} {k f : ℕ} (w : Walked F f₀ k₀
         let s : walkRun F f (drop (k - 1) xs) ≡ suc (walkRun F x (drop (k′ - 1) xs)) = rw q at (walk-on F f (k - 1) x xs e inside d) in
         record { low = omega arith; high = omega arith; reached = flow-in F x d .1; is = omega (arith, w .is, s, w .low) }
 
-module _ (F f k : ℕ) (xs : List ℕ) {k′ stop n : ℕ} (m : k′ ≡ k + 1) (l : n ≡ length xs) (e : stop ≡ k′ - 1 + walkRun F f (drop (k′ - 1) xs)) where
-  rest : k + walkRun F f (drop k xs) ≡ stop
-  rest = let q : k′ - 1 ≡ k = omega arith in sym (rw q at e)
-
-  pub wrong-walk : stop < n → Refused 10 stop ≡ wrongBase F f k xs
-  unfolding _then_ when
-  wrong-walk h = rw (rest, ← l, lt-ltb stop n h)
-
-  pub wrong-base : n ≤ stop → Refused 11 (n + (k - 1)) ≡ wrongBase F f k xs
-  unfolding _then_ when
-  wrong-base h = rw (rest, ← l, le-ltb stop n h)
-
 -- The invariant of the pass over the increments xs and the bases ys: what both tests seek they seek from k on.
 pub record Matched (characters xs ys : List ℕ) (k f : ℕ) : Type 0 where
   pub counts : length xs ≡ length ys
@@ -81,48 +63,48 @@ pub matched-start : (characters xs ys : List ℕ) → length xs ≡ length ys �
 matched-start characters xs ys h =
     record { counts = h; walked = walked-start (length characters) 0 1 xs (omega arith) (omega arith) (omega arith); calls-is = omega arith }
 
-module _ {characters xs ys : List ℕ} {k f : ℕ} (w : Matched characters xs ys k f) where
-  F : ℕ
-  F = length characters
+-- Where the pass has stopped: `callRun` defines the place, and x is the flow position of the base there, if there is one.
+pub record Stopped (characters xs ys : List ℕ) (k f x stop : ℕ) : Type 0 where
+  pub counts : length xs ≡ length ys
+  pub walked : Walked (length characters) 0 1 xs k f
+  pub place : stop ≡ k - 1
+  pub is : stop ≡ callRun characters 0 xs ys
+  pub flow : k ≤ length xs → x ≡ f + getD xs (k - 1) 0
 
-  first : {q : ℕ} → q ≡ 1 - 1 + walkRun (length characters) 0 (drop (1 - 1) xs) → walkRun (length characters) 0 xs ≡ q
-  first e = omega (arith, e)
+module _ {characters xs ys : List ℕ} {k f : ℕ} (w : Matched characters xs ys k f) {x : ℕ} where
+  stopped-here :
+      {stop : ℕ} →
+      stop ≡ k - 1 →
+      (k ≤ length xs → x ≡ f + getD xs (k - 1) 0) →
+      callRun characters f (drop (k - 1) xs) (drop (k - 1) ys) ≡ 0 →
+      Stopped characters xs ys k f x stop
+  stopped-here s e z = record { counts = w .counts; walked = w .walked; place = s; is = omega (arith, w .calls-is, z); flow = e }
 
-  pub matched-end : length xs < k → Accepted ≡ basesTest characters xs ys
-  unfolding basesTest _then_ when
-  matched-end h =
-      let s = calls-end characters f (k - 1) xs ys (omega arith) in
-      let c : callRun characters 0 xs ys ≡ length ys = omega (arith, w .calls-is, w .counts, w .walked .high, s) in
-      rw (first (walked-end (w .walked) h), c, le-ltb (length xs) (length xs) (omega arith), le-ltb (length xs + length ys) (length xs + length ys) (omega arith))
+  pub stopped-end : length xs < k → {stop : ℕ} → stop ≡ length xs → Stopped characters xs ys k f x stop
+  stopped-end h s =
+      let none = calls-end characters f (k - 1) xs ys (omega arith) in
+      stopped-here (omega (arith, w .walked .high)) (λ l. absurd (let a : ⊥ = omega arith in a)) none
 
   -- t is what the test of x gave
-  module _ (h : k ≤ length xs) {x : ℕ} (e : x ≡ f + getD xs (k - 1) 0) {t : Bool} (i : t ≡ isFlow (length characters) x) where
-    pub matched-stop : not t ≡ true → Refused 10 (k - 1) ≡ basesTest characters xs ys
-    unfolding basesTest _then_ when
-    matched-stop g =
-        let l : k - 1 < length xs = omega (arith, w .walked .low) in
-        rw (first (walked-stop (w .walked) h e i g), lt-ltb (k - 1) (length xs) l)
+  module _ (h : k ≤ length xs) (e : x ≡ f + getD xs (k - 1) 0) {t : Bool} (i : t ≡ isFlow (length characters) x) where
+    base-in : k - 1 < length xs
+    base-in = omega (arith, w .walked .low)
+
+    calls-none :
+        (isFlow (length characters) x && isCall characters x (getD ys (k - 1) 0)) ≡ false →
+        callRun characters f (drop (k - 1) xs) (drop (k - 1) ys) ≡ 0
+    calls-none = calls-stop (length characters) f (k - 1) x xs e base-in characters ys (omega (arith, base-in, w .counts))
+
+    pub stopped-walk : not t ≡ true → {stop : ℕ} → stop ≡ k - 1 → Stopped characters xs ys k f x stop
+    stopped-walk g s = stopped-here s (λ l. e) (calls-none (rw (sym i ∙ not-true t g)))
 
     -- u is what the test of the base gave
     module _ (g : not t ≡ false) {u : Bool} (j : u ≡ isCall characters x (getD ys (k - 1) 0)) where
-      flow : isFlow (length characters) x ≡ true
-      flow = sym i ∙ not-false t g
-
-      base-in : k - 1 < length xs
-      base-in = omega (arith, w .walked .low)
-
       both : {v : Bool} → u ≡ v → (isFlow (length characters) x && isCall characters x (getD ys (k - 1) 0)) ≡ v
-      both d = rw flow (sym j ∙ d)
+      both d = rw (sym i ∙ not-false t g) (sym j ∙ d)
 
-      pub matched-wrong : not u ≡ true → {r : Answer} → r ≡ wrongBase (length characters) x k xs → r ≡ basesTest characters xs ys
-      unfolding basesTest
-      matched-wrong a {r} d =
-          let q : k + 1 - 1 ≡ k = omega arith in
-          let m : walkRun (length characters) 0 xs ≡ k + walkRun (length characters) x (drop k xs) = rw q at (first (sym (walked-more (w .walked) h e i g {k′ = k + 1} refl .is))) in
-          let z = calls-stop (length characters) f (k - 1) x xs e base-in characters ys (omega (arith, base-in, w .counts)) (both (not-true u a)) in
-          let c : callRun characters 0 xs ys ≡ k - 1 = omega (arith, w .calls-is, z) in
-          let s : stopped 11 (length xs + (k - 1)) (length xs + length ys) ≡ Refused 11 (length xs + (k - 1)) = refused (lt-ltb (length xs + (k - 1)) (length xs + length ys) (omega (arith, base-in, w .counts))) in
-          d ∙ sym (rw (m, c, s))
+      pub stopped-base : not u ≡ true → {stop : ℕ} → stop ≡ k - 1 → Stopped characters xs ys k f x stop
+      stopped-base a s = stopped-here s (λ l. e) (calls-none (both (not-true u a)))
 
       pub matched-more : not u ≡ false → {k′ : ℕ} → k′ ≡ k + 1 → Matched characters xs ys k′ x
       matched-more a {k′} m =
@@ -131,7 +113,52 @@ module _ {characters xs ys : List ℕ} {k f : ℕ} (w : Matched characters xs ys
           rw q at (calls-on (length characters) f (k - 1) x xs e base-in characters ys (omega (arith, base-in, w .counts)) (both (not-false u a))) in
           record { counts = w .counts; walked = walked-more (w .walked) h e i g m; calls-is = omega (arith, w .calls-is, z, w .walked .low) }
 
--- what `search` needs for the walk, and for the pass over increments and bases
-pub ruleset walking = (walked-start, walked-end, walked-stop, walked-more, wrong-walk, wrong-base, needs)
+-- What the place means.
+module _ {characters xs ys : List ℕ} {k f x stop : ℕ} (w : Stopped characters xs ys k f x stop) where
+  whole : {walk : ℕ} → walk ≡ 1 - 1 + walkRun (length characters) 0 (drop (1 - 1) xs) → walkRun (length characters) 0 xs ≡ walk
+  whole e = omega (arith, e)
 
-pub ruleset matching = (matched-start, matched-end, matched-stop, matched-wrong, matched-more, needs)
+  pub answer-end : stop ≡ length xs → Accepted ≡ basesTest characters xs ys
+  unfolding basesTest _then_ when
+  answer-end h =
+      let n : length xs < k = omega (arith, w .place, w .walked .low) in
+      let c : callRun characters 0 xs ys ≡ length ys = omega (arith, w .is, w .counts) in
+      let N = length xs + length ys in
+      rw (whole (walked-end (w .walked) n), c, le-ltb (length xs) (length xs) (omega arith), le-ltb N N (omega arith))
+
+  module _ (h : stop ≡ length xs → ⊥) where
+    at-base : k ≤ length xs
+    at-base = omega (arith, w .place, w .walked .low, w .walked .high, h)
+
+    -- t is what the test of x gave
+    module _ {t : Bool} (i : t ≡ isFlow (length characters) x) where
+      pub answer-here : not t ≡ true → Refused 10 stop ≡ basesTest characters xs ys
+      unfolding basesTest _then_ when
+      answer-here g =
+          let v = whole (walked-stop (w .walked) at-base (w .flow at-base) i g) in
+          let s : walkRun (length characters) 0 xs ≡ stop = omega (arith, v, w .place) in
+          rw (s, lt-ltb stop (length xs) (omega (arith, at-base, w .place, w .walked .low)))
+
+      pub walked-past : not t ≡ false → {k′ : ℕ} → k′ ≡ k + 1 → Walked (length characters) 0 1 xs k′ x
+      walked-past g = walked-more (w .walked) at-base (w .flow at-base) i g
+
+    -- past the place, walk is where the rest of the walk stops
+    module _
+        {k′ walk : ℕ}
+        (v : Walked (length characters) 0 1 xs k′ x)
+        (e : walk ≡ k′ - 1 + walkRun (length characters) x (drop (k′ - 1) xs)) where
+      walk-is : walkRun (length characters) 0 xs ≡ walk
+      walk-is = whole (e ∙ sym (v .is))
+
+      pub answer-walk : walk < length xs → Refused 10 walk ≡ basesTest characters xs ys
+      unfolding basesTest _then_ when
+      answer-walk l = rw (walk-is, lt-ltb walk (length xs) l)
+
+      pub answer-base : length xs ≤ walk → Refused 11 (length xs + stop) ≡ basesTest characters xs ys
+      unfolding basesTest _then_ when
+      answer-base l =
+          let p : length xs + stop < length xs + length ys = omega (arith, at-base, w .place, w .walked .low, w .counts) in
+          rw (walk-is, ← (w .is), le-ltb walk (length xs) l, lt-ltb (length xs + stop) (length xs + length ys) p)
+
+-- what `search` needs for the walk
+pub ruleset walking = (walked-start, walked-end, walked-stop, walked-more, needs)

@@ -4,7 +4,6 @@ ghost use Prim.Native.Nat.{_+_, _-_, _≤_, _<_};
 ghost use lib.ListN.{length, drop};
 ghost use Rattle.sff_format.specs.Rules.{isCall, walkRun};
 ghost use Rattle.sff_format.specs.ReadTest.{basesTest};
-ghost use Rattle.sff_walk.specs.Bases.{wrongBase};
 use crate::BasePosition;
 use crate::FlowPosition;
 use answers::Answer;
@@ -42,21 +41,9 @@ fn is_call(characters: &[u8], flow: FlowPosition, base: u8) -> bool
     (base == characters[flow.0 - 1]) | (base == b'N')
 }
 
-// What is answered where a base is wrong: all of the walk comes before any base, so the rest of the walk goes first.
-fn wrong_base(increments: &[u8], base: BasePosition, flow: FlowPosition, flows: usize) -> Answer
-    requires { ⌜ (length (now increments) < 4294967296) × (flows < 65536) × (1 ≤ base .0) × (base .0 ≤ length (now increments)) × (flow .0 ≤ flows) ⌝ }
-    ensures { λ r. ⌜ r ≡ wrongBase flows (flow .0) (base .0) (now (increments .entry)) ⌝ }
-{
-    let k = base.0;
-    let bases = increments.len();
-    let stop = walk_stop(increments, base.next(), flow, flows);
-    if stop < bases {
-        return Answer::Refused(10, stop);
-    }
-    Answer::Refused(11, bases + (k - 1))
-}
-
-// 10, 11: the walk over the increments and, in the same pass, the bases. Places count from the first increment, as though the bases came after them.
+// 10, 11: the walk over the increments and, in the same pass, the bases, to the place of the first base that breaks the
+// walk or is not its flow's character, or the end. All of 10 comes before any 11, so the rest of the walk goes before a
+// wrong base. Places count from the first increment, as though the bases came after them.
 pub fn bases_test(characters: &[u8], increments: &[u8], bases: &[u8]) -> Answer
     requires { ⌜ (length (now characters) < 65536) × (length (now increments) ≡ length (now bases)) × (length (now bases) < 4294967296) ⌝ }
     ensures { λ r. ⌜ r ≡ basesTest (now (characters .entry)) (now (increments .entry)) (now (bases .entry)) ⌝ }
@@ -65,19 +52,29 @@ pub fn bases_test(characters: &[u8], increments: &[u8], bases: &[u8]) -> Answer
     let count = increments.len();
     let mut base = BasePosition(1);
     let mut flow = FlowPosition(0);
-    loop {
+    let stop = loop {
         let k = base.0;
         if k > count {
-            break Answer::Accepted;
+            break count;
         }
-        let next = flow.after(increments[k - 1]);
-        if !next.within(flows) {
-            break Answer::Refused(10, k - 1);
+        flow = flow.after(increments[k - 1]);
+        if !flow.within(flows) {
+            break k - 1;
         }
-        if !is_call(characters, next, bases[k - 1]) {
-            break wrong_base(increments, base, next, flows);
+        if !is_call(characters, flow, bases[k - 1]) {
+            break k - 1;
         }
         base = base.next();
-        flow = next;
+    };
+    if stop == count {
+        return Answer::Accepted;
     }
+    if !flow.within(flows) {
+        return Answer::Refused(10, stop);
+    }
+    let walk = walk_stop(increments, base.next(), flow, flows);
+    if walk < count {
+        return Answer::Refused(10, walk);
+    }
+    Answer::Refused(11, count + stop)
 }

@@ -131,8 +131,7 @@ pub rules-of-file : (f : File) → Valid f ↔ FileKeeps f
 rules-of-file f =
     let cs = f .flow-characters in
     let o = f .index .offset in
-    let n = length (f .index .bytes) in
-    (
+    let n = length (f .index .bytes) in (
       λ v. record {
         header-length = let h = v .header-fits in omega arith;
         read-count = let h = v .count-fits in omega arith;

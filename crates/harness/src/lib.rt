@@ -40,7 +40,8 @@ pub extern "C" fn h_test(file: &[u8], place: &mut u64) -> u64
     test_out(file, place)
 }
 
-// The characters go to the front of `out` if it has room for them all; if not it stays as it is. `made` is how many they are in either case.
+// The characters go to the front of `out` if it has room for them all; if not it stays as it is. `made` is how many
+// they are in either case.
 #[no_mangle]
 pub extern "C" fn h_flow_characters(
     file: &[u8],
@@ -67,7 +68,8 @@ pub extern "C" fn h_key(file: &[u8], out: &mut [u8], place: &mut u64, made: &mut
     key_out(file, out, place, made)
 }
 
-// The view by its numbers: place and size of its name, values, increments, bases and qualities, then its clips in file order. What is not given is 0.
+// The view by its numbers: place and size of its name, values, increments, bases and qualities, then its clips in file
+// order. What is not given is 0.
 #[no_mangle]
 pub extern "C" fn h_view_test(file: &[u8], view: &[u64], place: &mut u64) -> u64
     ensures { λ r. ⌜ r ≡ numberOf (viewTest (now (file .entry)) (viewFrom (now (view .entry)))) ⌝ }

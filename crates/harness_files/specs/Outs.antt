@@ -16,8 +16,8 @@ abbrev pub stateFrom : ℕ → ℕ → ℕ → State
 stateFrom at passed index-passed = record { place = at; passed-reads = passed; passed-index = not (eqb index-passed 0) }
 
 -- a view that is given as a list of numbers: place and size of the name, the values, the increments, the bases and the
--- qualities, then the clips in file order; what the list does not reach is 0, and so is the read's place, which no accessor
--- asks for
+-- qualities, then the clips in file order; what the list does not reach is 0, and so is the read's place, which no
+-- accessor asks for
 abbrev pub stretchFrom : List ℕ → ℕ → ℕ → Stretch
 stretchFrom l i j = record { at = getD l i 0; size = getD l j 0 }
 

@@ -168,7 +168,8 @@ fn clips_from(x: u64) -> Clips
     }
 }
 
-// The characters go to the front of `out` if it has room for them all; if not it stays as it is. `made` is how many they are in either case.
+// The characters go to the front of `out` if it has room for them all; if not it stays as it is. `made` is how many
+// they are in either case.
 pub fn flow_characters_out(file: &[u8], out: &mut [u8], place: &mut u64, made: &mut u64) -> u64
     ensures { λ r. ⌜ r ≡ numberOf (headerTest (now (file .entry))) ⌝ }
     ensures { λ _. ⌜ now (place .exit) ≡ placeOf (headerTest (now (file .entry))) ⌝ }

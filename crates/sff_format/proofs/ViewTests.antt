@@ -1,6 +1,7 @@
--- A view that is accepted is handed out whole, and a view that a step gave is accepted: each part of it lies in the file. Assumes nothing.
-use Prim.Native.Nat.{ℕ, suc, _+_, _-_, _*_, _≤_}
-use mathlib.Core.Path.{_≡_, refl, sym, subst}
+-- A view that is accepted is handed out whole, and a view that a step gave is accepted: each part of it lies in the
+-- file. Assumes nothing.
+use Prim.Native.Nat.{ℕ, suc, _+_, _-_, _≤_}
+use mathlib.Core.Path.{_≡_, refl, subst}
 use mathlib.Core.Bool.{Bool, true, false, _&&_, and-false}
 use mathlib.Core.List.{List}
 use native.Mathlib.Omega.{arith}
@@ -16,7 +17,7 @@ use Rattle.answers.specs.Answer.{when, _then_}
 use Rattle.answers.proofs.Answers.{first-ok, second-ok, both-ok, when-ok, ok-when, under-ok, ok-under}
 use Rattle.sff_format.specs.declared.Stretch.{Stretch}
 use Rattle.sff_format.specs.declared.ReadView.{ReadView}
-use Rattle.sff_format.specs.HeaderTest.{headerTest, flows, flowCharacters}
+use Rattle.sff_format.specs.HeaderTest.{flows, flowCharacters}
 use Rattle.sff_format.specs.ReadTest.{readTest}
 use Rattle.sff_format.specs.View.{viewAt, bytesIn, viewFirst, viewLast, insertIn, outside, insertOutside, viewTest}
 use Rattle.sff_format.specs.Step.{State, Step, found, stop, boundary, stepTest, step}

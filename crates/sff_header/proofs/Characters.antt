@@ -1,4 +1,5 @@
--- The flow and key characters that are handed out lie within an accepted header, by its fields as the code has them. Assumes nothing.
+-- The flow and key characters that are handed out lie within an accepted header, by its fields as the code has them.
+-- Assumes nothing.
 use Prim.Native.Nat.{ℕ, _+_}
 use mathlib.Core.Path.{_≡_, sym, _∙_}
 use mathlib.Core.List.{List}

@@ -1,4 +1,5 @@
-// What a step says of a read, as parts of the lent file. A view that no step gave may name bytes outside of the file: its part is then the file's empty front, and `view_test` says which part it is.
+// What a step says of a read, as parts of the lent file. A view that no step gave may name bytes outside of the file:
+// its part is then the file's empty front, and `view_test` gives the number and the place.
 ghost use mathlib.Core.Path.{_≡_};
 ghost use Rattle.answers.specs.Answer.{when, _then_};
 ghost use Rattle.sff_format.specs.View.{bytesIn, insertIn, outside, insertOutside, viewTest};

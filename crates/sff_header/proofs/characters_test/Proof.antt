@@ -1,3 +1,6 @@
+-- The tests in their order, each on what the scan before it answered.
+use mathlib.Core.Path.{_≡_}
+use Rattle.answers.specs.declared.Answer.the-variants.{Refused}
 use Rattle.answers.specs.Answer.{when, _then_}
 use Rattle.sff_format.specs.HeaderTest.{charactersTest}
 use Rattle.answers.proofs.Answers.{tests}
@@ -18,7 +21,9 @@ unfolding charactersTest _then_ when
 returns-2 c = let g = c .before .before .before .before .before .before in
     let h = g .args .header in
     let b = g .args .s .now in
-    search (tests, length-of h b (g .pre .0), key-length-of h b (g .pre .0), flows-of h b (g .pre .0), ← (c .before .before .before .before .characters-end .ensures), ← (c .before .before .before .first-not .ensures .0), ← (c .before .first-not2 .ensures .0))
+    let refused : Refused 7 (c .before .first-not2 .result) ≡ charactersTest b =
+    search (tests, length-of h b (g .pre .0), key-length-of h b (g .pre .0), flows-of h b (g .pre .0), ← (c .before .before .before .before .characters-end .ensures), ← (c .before .before .before .first-not .ensures .0), ← (c .before .first-not2 .ensures .0)) in
+    refused
 
 returns-3 : tie.Need-returns-3
 unfolding charactersTest _then_ when

@@ -1,6 +1,8 @@
+-- At each turn one byte of the source is put, at its place.
 use Prim.Native.Nat.{_-_}
+use native.Mathlib.Omega.{arith}
 use Rattle.octets.specs.Parts.{part}
-use Rattle.octets.proofs.Moves.{Up, moves}
+use Rattle.octets.proofs.Moves.{Up, up-more, part-value, moves}
 use Rattle.buffers.proofs.inner.copy.Statement.{statement}
 use Rattle.buffers.proofs.inner.copy.Tie as tie
 
@@ -23,6 +25,9 @@ copy-spec =
     (λ c. search moves)
     (λ c. search moves)
     (λ c. search moves)
-    (λ c. search moves)
+    (λ c.
+    let l = c .before .before in
+    let a = l .before .args in
+    up-more (l .loop .inv) (omega arith) _ (part-value (a .from) (a .n) (a .source .now) (l .loop .j) (omega arith)))
     (λ c. search moves)
     (λ c. search moves))

@@ -1,7 +1,8 @@
+-- At each turn one byte of the value is put, at its place.
 use Prim.Native.Nat.{_-_}
 use native.Mathlib.Omega.{arith}
 use lib.ListN.{replicate, length-replicate}
-use Rattle.octets.proofs.Moves.{Up, up-start, moves}
+use Rattle.octets.proofs.Moves.{Up, up-start, up-more, same-value, moves}
 use Rattle.buffers.proofs.inner.fill.Statement.{statement}
 use Rattle.buffers.proofs.inner.fill.Tie as tie
 
@@ -23,6 +24,9 @@ fill-spec =
     (λ c. search moves)
     (λ c. search moves)
     (λ c. search moves)
-    (λ c. search moves)
+    (λ c.
+    let l = c .before in
+    let a = l .before .args in
+    up-more (l .loop .inv) (omega arith) _ (same-value (a .to - a .from) (l .loop .j) (a .v) (omega arith)))
     (λ c. search moves)
     (λ c. search moves))

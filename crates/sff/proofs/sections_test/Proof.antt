@@ -1,3 +1,4 @@
+-- At each turn the whole test is what is still to be tested from the place on.
 use mathlib.Core.Path.{sym, _∙_}
 use mathlib.Core.Bool.{true, false}
 use native.Mathlib.Omega.{arith}
@@ -24,7 +25,10 @@ loop-holds c =
     let d = c .before in
     let h = d .args .header in
     let e = d .pre .1 .0 in
-    rw (← (reads-of h _ e), ← (length-of h _ e)) (going-start _ (d .pre .0) _ _ false (header-fits _ (d .pre .0)))
+    let b = d .args .s .now in
+    let start : Going b (boundaryTest b (readCount b) (headerLength b) false) (h .reads) (h .length) false =
+    rw (← (reads-of h _ e), ← (length-of h _ e)) (going-start _ (d .pre .0) _ _ false (header-fits _ (d .pre .0))) in
+    start
 
 add-reads-test : tie.Need-add-reads-test Inv-loop μ-loop
 add-reads-test c =

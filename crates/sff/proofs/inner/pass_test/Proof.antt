@@ -1,3 +1,6 @@
+-- The index is cut short, or it is not, as the comparison says.
+use mathlib.Core.Path.{_≡_}
+use Rattle.answers.specs.declared.Answer.the-variants.{Refused}
 use Rattle.answers.proofs.Answers.{tests}
 use Rattle.answers.specs.Answer.{when}
 use native.Mathlib.Omega.{arith}
@@ -10,7 +13,10 @@ use Rattle.sff.proofs.inner.pass_test.Tie as tie
 
 returns : tie.Need-returns
 unfolding passTest when
-returns c = let d = c .before .before .before in search (tests, index-length-of (d .args .header) _ (d .pre .0), ← (c .before .index-size .ensures))
+returns c = let d = c .before .before .before in
+    let a = d .args in
+    let short : Refused 1 (a .place) ≡ passTest (a .s .now) (a .place) = search (tests, index-length-of (a .header) _ (d .pre .0), ← (c .before .index-size .ensures)) in
+    short
 
 returns-2 : tie.Need-returns-2
 unfolding passTest when

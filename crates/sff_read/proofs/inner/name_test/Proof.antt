@@ -1,3 +1,7 @@
+-- The tests in their order, each on what the scan before it answered.
+use Prim.Native.Nat.{_+_}
+use mathlib.Core.Path.{_≡_}
+use Rattle.octets.specs.Scans.{isZero, firstNot}
 use Rattle.answers.proofs.Answers.{tests}
 use Rattle.answers.specs.Answer.{_then_, when}
 use Rattle.sff_format.specs.ReadTest.{nameTest}
@@ -21,7 +25,9 @@ returns-3 c = let n = c .before in
 returns-4 : tie.Need-returns-4
 unfolding nameTest _then_ when
 returns-4 c = let n = c .before .before .before in
-    search (tests, ← (n .before .before .before .up8 .ensures), ← (n .first-not .ensures .0), ← (c .before .first-not2 .ensures .0))
+    let a = n .before .before .before .before .before .args in
+    let zeros : c .before .first-not2 .result ≡ firstNot isZero (a .p + 16 + a .name-length) (a .p + a .section) (a .s .now) = c .before .first-not2 .ensures .0 in
+    search (tests, ← (n .before .before .before .up8 .ensures), ← (n .first-not .ensures .0), ← zeros)
 
 returns-5 : tie.Need-returns-5
 unfolding nameTest _then_ when

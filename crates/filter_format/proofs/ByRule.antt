@@ -27,13 +27,7 @@ use Rattle.filter_format.proofs.Wholes.{range-positive, whole-units, be
 use Rattle.filter_format.proofs.Results.{tested-ok, tested-makes}
 use Rattle.filter_format.proofs.Sampled.{samples-whole}
 use Rattle.filter_format.proofs.Refusals.{encode-zero, encode-samples-zero}
-use Rattle.filter_format.proofs.Scans.{length-scan, sum-difference, below-deltas}
-
--- an element is below what all are
-below-at : (m : ℕ) → 0 < m → (xs : List ℕ) → Below m xs → (i : ℕ) → getD xs i 0 < m
-below-at m h [] y i = h
-below-at m h (x ∷ xs) y zero = y .0
-below-at m h (x ∷ xs) y (suc i) = below-at m h xs (y .1) i
+use Rattle.filter_format.proofs.Scans.{below-at, length-scan, sum-difference, below-deltas}
 
 -- a scan that remembers the latest element: what stands at i is made of the elements at i and before it
 scan-at : (out : ℕ → ℕ → ℕ) (p : ℕ) (xs : List ℕ) (i : ℕ) → i < length xs → getD (scan out latest p xs) i 0 ≡ out (getD (p ∷ xs) i 0) (getD xs i 0)

@@ -4,13 +4,13 @@ use mathlib.Core.Path.{_≡_, refl, ap, _∙_}
 use mathlib.Core.Bool.{Bool, true, false, not, _&&_, _||_}
 use mathlib.Core.Logic.{_⊎_, inl, inr, ⊎-elim}
 use mathlib.Core.List.{List, [], _∷_}
-use Prim.Native.Nat.{ℕ, _+_, _<_, _≤_}
+use Prim.Native.Nat.{ℕ, _<_, _≤_}
 use native.Mathlib.Omega.{arith}
-use borrow.Author.Tests.{leb-true, lt-leb, ltb-false, le-ltb, eqb-true, ne-eqb, not-false}
+use borrow.Author.Tests.{leb-true, lt-leb, le-ltb, ne-eqb, not-false}
 use lib.Dec.{eqb, leb, ltb}
 use lib.ListN.{length, getD}
 use Rattle.octets.specs.Numbers.{bigEndianFrom, number, bytesOf, unitsAt}
-use Rattle.octets.specs.Scans.{oneMore, run, firstNot, isZero}
+use Rattle.octets.specs.Scans.{run, firstNot, isZero}
 use Rattle.answers.specs.declared.Answer.the-variants.{Accepted, Refused}
 use Rattle.answers.specs.Answer.{when, _then_, acceptedOr}
 use Rattle.answers.proofs.Answers.{first-ok, second-ok, when-ok, or-left, or-right, and-both}
@@ -21,6 +21,7 @@ use Rattle.filter_format.specs.Undo.{making, refusing, blockTest, undoFr
 use Rattle.filter_format.specs.Encode.{badGiven, badUnits, headerRest, encodedData, encoded, encodeTest, encode}
 use Rattle.filter_format.proofs.Results.{tested-ok}
 use Rattle.filter_format.proofs.Blocks.{header-fits, header-right}
+use Rattle.filter_format.proofs.Layers.{zeros}
 
 -- "64, 65, 66: level byte .. (66: then two zeros), data in units of 1, 2, 4 bytes": a format, the width of its units,
 -- and where its data begin
@@ -55,12 +56,7 @@ zeros-right [] l e = absurd (let a : ⊥ = omega arith in a)
 zeros-right (f ∷ []) l e = absurd (let a : ⊥ = omega arith in a)
 zeros-right (f ∷ n ∷ []) l e = absurd (let a : ⊥ = omega arith in a)
 zeros-right (f ∷ n ∷ x ∷ []) l e = absurd (let a : ⊥ = omega arith in a)
-zeros-right (f ∷ n ∷ x ∷ y ∷ s) l e = go (eqb x 0) (eqb y 0) refl refl (ltb-false _ 4 e)
-  where
-    go : (t u : Bool) → eqb x 0 ≡ t → eqb y 0 ≡ u → 4 ≤ 2 + oneMore t (oneMore u 0) → (x ≡ 0) × (y ≡ 0)
-    go true true p q h = (eqb-true x 0 p, eqb-true y 0 q)
-    go true false p q h = absurd (let a : ⊥ = omega arith in a)
-    go false u p q h = absurd (let a : ⊥ = omega arith in a)
+zeros-right (f ∷ n ∷ x ∷ y ∷ s) l e = zeros x y (eqb x 0) (eqb y 0) refl refl e
 
 zeros-wrong : (b : List ℕ) → 4 ≤ length b → ((getD b 2 0 ≡ 0 → ⊥) ⊎ (getD b 3 0 ≡ 0 → ⊥)) → ltb (firstNot isZero 2 4 b) 4 ≡ true
 zeros-wrong b l h = go (ltb (firstNot isZero 2 4 b) 4) refl

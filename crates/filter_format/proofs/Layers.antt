@@ -27,15 +27,14 @@ use Rattle.filter_format.specs.Encode.{badGiven, badUnits, headerRest, e
 use Rattle.filter_format.proofs.Wholes.{whole-units, below-units, bytes-of-units}
 use Rattle.filter_format.proofs.Levels.{length-delta, length-undelta, undelta-delta-bytes, delta-undelta-bytes}
 use Rattle.filter_format.proofs.Narrowing.{widen-narrow, lacking-narrow}
+use Rattle.filter_format.proofs.Scans.{below-at}
 use Rattle.filter_format.proofs.Following.{unfollow-follow, follow-unfollow}
 use Rattle.filter_format.proofs.Results.{tested-ok, tested-makes}
 use Rattle.filter_format.proofs.Blocks.{known, header-fits, header-right, data-right}
 
 -- every element of a list of bytes is one
-pub byte-at : (l : List ℕ) → Bytes l → (i : ℕ) → getD l i 0 < 256
-byte-at [] y i = omega arith
-byte-at (x ∷ l) y zero = y .0
-byte-at (x ∷ l) y (suc i) = byte-at l (y .1) i
+byte-at : (l : List ℕ) → Bytes l → (i : ℕ) → getD l i 0 < 256
+byte-at l y i = below-at 256 (omega arith) l y i
 
 -- what the tests ask of a block b whose filter is f, but for the room, and what undoing gives
 record Opens (f : Filter) (b s : List ℕ) : Type 0 where
@@ -198,7 +197,7 @@ module _ (room room' format level : ℕ) (follow s : List ℕ) (y : Bytes s) (z 
   ninth-after-encode = let raw = raw-none (filterAt layer) filters in rw (made, some format level follow s, raw, filters)
 
 -- a header of format 64, 65 or 66 that was accepted has its zeros
-zeros : (x y : ℕ) (t u : Bool) → eqb x 0 ≡ t → eqb y 0 ≡ u → ltb (2 + oneMore t (oneMore u 0)) 4 ≡ false → (x ≡ 0) × (y ≡ 0)
+pub zeros : (x y : ℕ) (t u : Bool) → eqb x 0 ≡ t → eqb y 0 ≡ u → ltb (2 + oneMore t (oneMore u 0)) 4 ≡ false → (x ≡ 0) × (y ≡ 0)
 zeros x y true true e f h = (eqb-true x 0 e, eqb-true y 0 f)
 zeros x y true false e f h = let k = ltb-false 3 4 h in absurd (omega arith)
 zeros x y false u e f h = let k = ltb-false 2 4 h in absurd (omega arith)

@@ -4,9 +4,15 @@ use mathlib.Core.List.{List, [], _∷_}
 use Prim.Native.Nat.{ℕ, zero, suc, _+_, _-_, _%_, _<_}
 use native.Mathlib.Nat.{mod-lt, mod-eq-of-lt, add-mod-mod, mod-add-mod, add-mod-right}
 use native.Mathlib.Omega.{arith}
-use lib.ListN.{length}
+use lib.ListN.{length, getD}
 use Rattle.octets.specs.Numbers.{Below}
 use Rattle.filter_format.specs.Delta.{scan, difference, sum, latest, delta, undelta, deltas, undeltas}
+
+-- an element is below what all are
+pub below-at : (m : ℕ) → 0 < m → (xs : List ℕ) → Below m xs → (i : ℕ) → getD xs i 0 < m
+below-at m h [] y i = h
+below-at m h (x ∷ xs) y zero = y .0
+below-at m h (x ∷ xs) y (suc i) = below-at m h xs (y .1) i
 
 -- a scan keeps the length
 pub length-scan : (o g : ℕ → ℕ → ℕ) (p : ℕ) (xs : List ℕ) → length (scan o g p xs) ≡ length xs

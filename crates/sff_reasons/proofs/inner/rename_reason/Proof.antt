@@ -24,6 +24,17 @@ wide-flows c = sym (flows-of (c .args .header) (c .args .s .now) (c .pre .1 .1 .
 following : (c : tie.Start) (n : ℕ) → n ≡ position (c .args .«record» .now) → c .args .header .reads - (n + 1) ≡ readCount (c .args .s .now) - suc (position (c .args .«record» .now))
 following c n e = omega (arith, e, reads-of (c .args .header) (c .args .s .now) (c .pre .1 .1 .0 .0))
 
+-- a read that follows has the new name
+returns-2 : tie.Need-returns-2
+returns-2 c =
+    let again = c .before in
+    let end = again .before .before in
+    let first = end .before .before in
+    let d = first .before .before .before .before in
+    reason-24-after (d .pre .0) (sym (d .pre .1 .0)) refl (no-clips d) (d .pre .1 .1 .1 .0) refl (d .pre .1 .1 .1 .1) (long d)
+    (rw (first .before .get32 .ensures .0) at (first .bears-new-name .ensures)) (end .before .if1 .left)
+    (rw (wide-flows d) at (end .read-end .ensures)) (following d _ (first .before .get32 .ensures .0)) (again .bears-new-name2 .ensures) (c .if2 .taken)
+
 pub rename-reason-spec : {M : Type 1} → statement M
 rename-reason-spec =
     tie.close
@@ -47,10 +58,7 @@ rename-reason-spec =
       plain-after (d .pre .0) (sym (d .pre .1 .0)) refl (no-clips d) (d .pre .1 .1 .1 .0) refl (rw (wide-flows d) at (c .before .read-end .ensures)) (following d _ (c .before .before .before .before .get32 .ensures .0)),
       ((wide-flows d, d .pre .1 .1 .0 .1 .flows-small), found-new (d .pre .0)),
     ))
-    (λ c.
-    let d = c .before .before .before .before .before .before .before .before .before in
-    reason-24-after (d .pre .0) (sym (d .pre .1 .0)) refl (no-clips d) (d .pre .1 .1 .1 .0) refl (d .pre .1 .1 .1 .1) (long d) (rw (c .before .before .before .before .before .before .get32 .ensures .0) at (c .before .before .before .before .before .bears-new-name .ensures)) (c .before .before .before .before .if1 .left)
-    (rw (wide-flows d) at (c .before .before .before .read-end .ensures)) (following d _ (c .before .before .before .before .before .before .get32 .ensures .0)) (c .before .bears-new-name2 .ensures) (c .if2 .taken))
+    returns-2
     (λ c. search needs)
     (λ c κs. let d = c .before .before .before .before .before .before .before .before .before in omega (arith, found-begins (d .pre .0)))
     (λ c. let d = c .before .before .before .before .before .before .before .before .before .before in let e = found-section (d .pre .0) in let g = c .get16 .ensures .0 in let h = d .pre .0 .holds in search needs)

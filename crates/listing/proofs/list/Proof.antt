@@ -1,4 +1,4 @@
--- The listing is the lines of an accepted file, or the line of the refusal. Where `has_room` answered true there is room for either.
+-- The listing is the lines of an accepted file, or the line of the refusal; `has_room` says that either fits.
 use Prim.Native.Nat.{ℕ}
 use mathlib.Core.Path.{_≡_, sym, _∙_}
 use mathlib.Core.List.{List}

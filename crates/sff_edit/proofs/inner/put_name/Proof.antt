@@ -1,4 +1,4 @@
--- The new name in the place of the old one, and then the two lengths before it, each with what the read and the record say.
+-- The new name in the place of the old one, and then the two lengths before it.
 use Prim.Native.Nat.{ℕ, _+_, _-_}
 use mathlib.Core.Path.{ap, _∙_}
 use native.Mathlib.Omega.{arith}

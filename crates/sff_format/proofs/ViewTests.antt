@@ -13,13 +13,12 @@ use Rattle.octets.specs.Numbers.{Bytes}
 use Rattle.octets.proofs.Lists.{length-part, whole-in, whole-none}
 use Rattle.answers.specs.declared.Answer.{Answer}
 use Rattle.answers.specs.declared.Answer.the-variants.{Accepted, Refused}
-use Rattle.answers.specs.Answer.{when, _then_}
 use Rattle.answers.proofs.Answers.{first-ok, second-ok, both-ok, when-ok, ok-when, under-ok, ok-under}
 use Rattle.sff_format.specs.declared.Stretch.{Stretch}
 use Rattle.sff_format.specs.declared.ReadView.{ReadView}
 use Rattle.sff_format.specs.HeaderTest.{flows, flowCharacters}
 use Rattle.sff_format.specs.ReadTest.{readTest}
-use Rattle.sff_format.specs.View.{viewAt, bytesIn, viewFirst, viewLast, insertIn, outside, insertOutside, viewTest}
+use Rattle.sff_format.specs.View.{viewAt, bytesIn, viewFirst, viewLast, insertIn, insertOutside, viewTest}
 use Rattle.sff_format.specs.Step.{State, Step, found, stop, boundary, stepTest, step}
 use Rattle.sff_format.proofs.HeaderLaws.{characters-length}
 use Rattle.sff_format.proofs.ReadLaid.{section-is, section-fits, data-fits}
@@ -63,22 +62,19 @@ module _ (b : List ℕ) (v : ReadView) (e : viewTest b v ≡ Accepted) where
   unfolding viewTest
   increments-whole = whole b (v .increments) (under-ok _ _ _ _ (first-ok _ _ (second-ok _ _ (second-ok _ _ e))))
 
-  -- the tests from the bases' on
-  from-bases : (when (outside b (v .bases)) 1 (v .bases .at) then when (outside b (v .qualities)) 1 (v .qualities .at) then when (insertOutside v) 1 (v .bases .at)) ≡ Accepted
-  unfolding viewTest
-  from-bases = second-ok _ _ (second-ok _ _ (second-ok _ _ e))
-
   pub bases-whole : Whole b (v .bases)
-  bases-whole = whole b (v .bases) (under-ok _ _ _ _ (first-ok _ _ from-bases))
+  unfolding viewTest
+  bases-whole = whole b (v .bases) (under-ok _ _ _ _ (first-ok _ _ (second-ok _ _ (second-ok _ _ (second-ok _ _ e)))))
 
   pub qualities-whole : Whole b (v .qualities)
-  qualities-whole = whole b (v .qualities) (under-ok _ _ _ _ (first-ok _ _ (second-ok _ _ from-bases)))
+  unfolding viewTest
+  qualities-whole = whole b (v .qualities) (under-ok _ _ _ _ (first-ok _ _ (second-ok _ _ (second-ok _ _ (second-ok _ _ (second-ok _ _ e))))))
 
   -- all bases from the first to the last of the insert, none where the last comes before the first
   pub insert-whole : length (insertIn b v) ≡ suc (viewLast v) - viewFirst v
-  unfolding insertIn
+  unfolding viewTest insertIn
   insert-whole =
-      let t : insertOutside v ≡ false = when-ok _ _ _ (second-ok _ _ (second-ok _ _ from-bases)) in
+      let t : insertOutside v ≡ false = when-ok _ _ _ (second-ok _ _ (second-ok _ _ (second-ok _ _ (second-ok _ _ (second-ok _ _ e))))) in
       insert-length (viewFirst v) (viewLast v) (bytesIn b (v .bases)) (first-least (v .«quality_left») (v .«adapter_left»)) (rw (bases-whole .1) t)
 
 -- the view of a read that is accepted

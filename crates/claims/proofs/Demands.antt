@@ -1,5 +1,5 @@
--- Condition C of the tender, "checked statements": "Rattle's checker accepts the following, for every input." Each of its
--- sentences stands here word for word, in its order, and beside it a theorem over the entry points' definitions.
+-- Condition C of the tender, "checked statements": "Rattle's checker accepts the following, for every input." Each of
+-- its sentences stands here word for word, in its order, and beside it a theorem over the entry points' definitions.
 -- "Code" names the functions that promise to answer and to leave what the definitions say. "Shuts out" names wrong
 -- programs, each with the must-fail edits that show it: a/b is crates/a/must-fail/b.edit, a wrong program or a wrong
 -- definition that the check refuses. `Bytes` says of a list of numbers that each is a byte, as in every lent slice.
@@ -64,8 +64,8 @@ use Rattle.claims.proofs.MarkedCases.{marked}
 -- "Each public entry point tests for itself and answers, or has a companion call that answers, with a number from
 -- document 01's list."
 -- The entry points are the table `Call`, the same list as in docs/API.md; a call with a companion has the companion's
--- answer in its row. The exceptions, until text is measured, are the calls that put text into a lent buffer
--- (docs/API.md, "Text and helpers"): they answer its length, and 0 without room.
+-- answer in its row. The exceptions are the calls that put text into a lent buffer (docs/API.md, "Text and helpers"):
+-- they answer its length, and 0 without room.
 -- Code: each function of the table.
 -- Shuts out:
 --   a call with a number of its own (sff_find/another_number, sff_format/number_of_its_own)
@@ -94,9 +94,9 @@ pub refused-unchanged : (buffer : List ℕ) (len : ℕ) (r : List ℕ) → (numb
 refused-unchanged = refused-left
 
 -- "what other lent memory holds is stated there."
--- After a refusal each buffer that a call was lent to write holds what document 01 says of it: the column `if-refused` of
--- the table. A new file, an append, an encoding and SCF samples change nothing; a list leaves what its records before the
--- refused one left; undoing zeroes both buffers.
+-- After a refusal each buffer that a call was lent to write holds what document 01 says of it: the column `if-refused`
+-- of the table. A new file, an append, an encoding and SCF samples change nothing; a list leaves what its records
+-- before the refused one left; undoing zeroes both buffers.
 -- Code: `sff_writer::new_file`, `append`; `sff_corrector::correct`, `correct_list`; `filters::undo`, `undo_layer`;
 -- `filter_encode::encode`; `scf_samples::encode_samples`, `undo_samples`; `service::sffstore_correct`.
 -- Shuts out:
@@ -137,7 +137,8 @@ pub written-and-read-back : (f : File) → f .index ≡ noIndex → Valid f → 
 written-and-read-back = written-back
 
 -- "and a file without an index, read and written again, gives its own bytes."
--- Its characters and its reads as the calls hand them out, written into any buffer that holds them, whose other bytes stay.
+-- Its characters and its reads as the calls hand them out, written into any buffer that holds them, whose other bytes
+-- stay.
 -- Code: `sff_header::flow_characters` and `key`; `Reader::fresh` and `step`, and the accessors of `sff_view`;
 -- `sff_writer::new_file` and `append`.
 -- Shuts out:
@@ -181,8 +182,8 @@ each-filter = record {
 
 -- DEMAND 3
 
--- One record, on any buffer with any length stated. The reasons in document 01's order are the table `reasonsAgainst`; f is
--- what the file says, and `new` that with the record carried out.
+-- One record, on any buffer with any length stated. The reasons in document 01's order are the table `reasonsAgainst`;
+-- f is what the file says, and `new` that with the record carried out.
 -- Code: `sff_corrector::correct`, and `service::sffstore_correct` over it.
 -- Shuts out:
 --   a corrector that writes nothing (sff_edit/writes_nothing, sff_correction/writes_nothing)
@@ -193,22 +194,22 @@ each-filter = record {
 --   one that leaves what is freed (splice/freed_bytes_left)
 --   one that still counts a read taken out (sff_edit/count_not_lowered)
 pub record OneRecordOn (buffer : List ℕ) (len : ℕ) (r : List ℕ) (f new : File) : Type 0 where
-  -- "Whatever bytes are lent as the file and as a correction record, and whatever file length is stated, the correction is
-  -- carried out, with number 0, exactly when none of document 01's reasons to refuse holds."
+  -- "Whatever bytes are lent as the file and as a correction record, and whatever file length is stated, the correction
+  -- is carried out, with number 0, exactly when none of document 01's reasons to refuse holds."
   pub carried-out : (numberOf (correctOutcome buffer len r .answer) ≡ 0) ↔ NoneHolds (reasonsAgainst buffer len r)
   -- "Otherwise it answers the first that holds, in document 01's order."
   pub else-first : FirstHolds (reasonsAgainst buffer len r) (correctOutcome buffer len r .answer)
   -- with another number than 0: the length given, and every byte as it was
   pub refused : (numberOf (correctOutcome buffer len r .answer) ≡ 0 → ⊥) → (correctOutcome buffer len r .length ≡ len) × (correctBuffer buffer len r ≡ buffer)
-  -- "Once carried out, the file is, byte for byte, what writing afresh gives": `new`, laid out; then zeros up to the longer
-  -- of both lengths, and the rest of the buffer as it was
+  -- "Once carried out, the file is, byte for byte, what writing afresh gives": `new`, laid out; then zeros up to the
+  -- longer of both lengths, and the rest of the buffer as it was
   pub afresh : numberOf (correctOutcome buffer len r .answer) ≡ 0
       → (correctOutcome buffer len r .length ≡ length (layout new)) × (correctBuffer buffer len r ≡ settled (layout new) (max len (length (layout new))) buffer)
   -- "from the same header, any index, and the same reads with that one read changed or left out."
   pub same-header : (new .flow-characters ≡ f .flow-characters) × (new .key ≡ f .key) × (new .index ≡ f .index)
   pub same-reads : new .reads ≡ take (position r) (f .reads) ++ instead r (readAt f (position r)) ++ drop (suc (position r)) (f .reads)
-  -- "Every other read's sections keep their bytes and their order.": so does all that stands before that read and after it,
-  -- but for the count at 20
+  -- "Every other read's sections keep their bytes and their order.": so does all that stands before that read and after
+  -- it, but for the count at 20
   pub others-kept : numberOf (correctOutcome buffer len r .answer) ≡ 0
       → take (correctOutcome buffer len r .length) (correctBuffer buffer len r)
       ≡ putAt 20 (bytesOf 4 (length (new .reads)))
@@ -239,8 +240,8 @@ one-record buffer len r y z = record {
 pub one-answer : (qs : List Reason) (a b : Answer) → FirstHolds qs a → FirstHolds qs b → a ≡ b
 one-answer = one-first
 
--- "what writing afresh gives": a file without index that is corrected in place is the one that a new file and an append for
--- each of its reads, with that one changed or left out, leave in any buffer that holds it.
+-- "what writing afresh gives": a file without index that is corrected in place is the one that a new file and an append
+-- for each of its reads, with that one changed or left out, leave in any buffer that holds it.
 -- Code: `sff_corrector::correct`; `sff_writer::new_file` and `append`.
 -- Shuts out:
 --   a corrector and a writer that lay a read out each in its own way (sff_edit/name_length_not_written,
@@ -251,8 +252,8 @@ pub in-place-is-afresh : (buffer : List ℕ) (len : ℕ) (r : List ℕ) → Byte
     ≡ record { outcome = correctOutcome buffer len r; buffer = putAt 0 (take (correctOutcome buffer len r .length) (correctBuffer buffer len r)) other }
 in-place-is-afresh = corrected-written
 
--- Every list, in one claim: f is what the file says, `all` how many records there are, `count` the count that is answered,
--- and `before k` what a list of the first k records leaves.
+-- Every list, in one claim: f is what the file says, `all` how many records there are, `count` the count that is
+-- answered, and `before k` what a list of the first k records leaves.
 -- Code: `sff_corrector::correct_list`.
 -- Shuts out:
 --   a list run that does its first record only (sff_corrector/first_record_only, sff_correction/first_record_only)
@@ -261,8 +262,8 @@ in-place-is-afresh = corrected-written
 --   sff_correction/length_of_the_start)
 --   one that goes on from a place where no read starts (sff_corrector/mark_elsewhere)
 pub record WholeList (buffer : List ℕ) (len : ℕ) (l : List ℕ) (f : File) (all count : ℕ) (before : ℕ → Run) : Type 0 where
-  -- "For every list of whole records, run on any accepted file, those carried out are exactly the ones before the first for
-  -- which a reason to refuse holds in its turn,"
+  -- "For every list of whole records, run on any accepted file, those carried out are exactly the ones before the first
+  -- for which a reason to refuse holds in its turn,"
   pub carried-out : (k : ℕ) → k < count → NoneHolds (reasonsInTurn (length buffer) k l f)
   pub refused : count < all → NoneHolds (reasonsInTurn (length buffer) count l f) → ⊥
   pub else-first : count < all → FirstHolds (reasonsInTurn (length buffer) count l f) (runList buffer len l .outcome .answer)
@@ -278,17 +279,17 @@ pub record WholeList (buffer : List ℕ) (len : ℕ) (l : List ℕ) (f : File) (
   pub each : (k : ℕ) → k ≤ count → k < all → OneRecord (before k .buffer) (before k .outcome .length) (recordAt k l)
   -- of its reasons 14 and the file's refusal never hold then, which is why `reasonsInTurn` has the others alone
   pub reasons : (k : ℕ) → k ≤ count → NoneHolds (reasonsAgainst (before k .buffer) (before k .outcome .length) (recordAt k l)) ↔ NoneHolds (reasonsInTurn (length buffer) k l f)
-  -- "The file is then what writing afresh gives from its header, any index, and the reads as these records, one after the
-  -- other, have left them."
+  -- "The file is then what writing afresh gives from its header, any index, and the reads as these records, one after
+  -- the other, have left them."
   pub file : take (runList buffer len l .outcome .length) (runList buffer len l .buffer) ≡ layout (fileAfter count l f)
   pub same-header : (fileAfter count l f .flow-characters ≡ f .flow-characters) × (fileAfter count l f .key ≡ f .key) × (fileAfter count l f .index ≡ f .index)
   -- and it keeps the rules
   pub valid : Valid (fileAfter count l f)
 
 pub record EveryList (buffer : List ℕ) (len : ℕ) (l : List ℕ) : Type 0 where
-  -- on any buffer with any length stated, document 01's "single claim over every list, on the whole answer and the whole
-  -- buffer": `listAfresh` says what is answered and left, also for a list that is not whole or is empty, and for a file that
-  -- is refused
+  -- on any buffer with any length stated, document 01's "single claim over every list, on the whole answer and the
+  -- whole buffer": `listAfresh` says what is answered and left, also for a list that is not whole or is empty, and for
+  -- a file that is refused
   pub whole : runList buffer len l ≡ listAfresh buffer len l
   -- whole records on an accepted file
   pub on-file : len ≤ length buffer → fileTest (take len buffer) ≡ Accepted → length l % 96 ≡ 0

@@ -1,4 +1,5 @@
--- The demands, and further sentences of document 01 in its order; below them the table of marked cases computed, what is computed of E besides, and the table of calls row by row.
+-- The demands, and further sentences of document 01 in its order; below them the table of marked cases computed, what
+-- is computed of E besides, and the table of calls row by row.
 pub mod Demands
 pub mod ScopeFile
 pub mod ScopeReads

@@ -39,8 +39,8 @@ pub accepted-index : (b : List ℕ) → headerTest b ≡ Accepted
     → ((number 8 8 b ≡ 0) × (number 4 16 b ≡ 0)) ⊎ ((0 < number 8 8 b) × (8 ≤ number 4 16 b) × (number 4 16 b % 8 ≡ 0))
 accepted-index = header-index
 
--- "A writer or corrector also answers the file's length afterwards (the length given if nothing is done; 0 for a refused
--- new file)"; that a refusal changes nothing, and of a corrector, is in `Demands`
+-- "A writer or corrector also answers the file's length afterwards (the length given if nothing is done; 0 for a
+-- refused new file)"; that a refusal changes nothing, and of a corrector, is in `Demands`
 pub refused-new-file : (buffer characters key : List ℕ) → (numberOf (newOutcome buffer characters key .answer) ≡ 0 → ⊥) → newOutcome buffer characters key .length ≡ 0
 unfolding newOutcome
 refused-new-file buffer characters key h = refused-or _ _ _ h
@@ -49,8 +49,8 @@ pub refused-append : (buffer : List ℕ) (len : ℕ) (r : Read) → (numberOf (a
 unfolding appendOutcome
 refused-append buffer len r h = refused-or _ _ _ h
 
--- WRITING. An append that is carried out leaves, at the front of the buffer, the file written afresh with one read more,
--- which keeps the rules
+-- WRITING. An append that is carried out leaves, at the front of the buffer, the file written afresh with one read
+-- more, which keeps the rules
 pub appended-afresh : (buffer : List ℕ) (len : ℕ) (r : Read) → Bytes buffer → Lent r → appendTest buffer len r ≡ Accepted
     → (appendBuffer buffer len r ≡ putAt 0 (layout (withReads (parse (take len buffer) .reads ++ (r ∷ [])) (parse (take len buffer)))) buffer)
     × Valid (withReads (parse (take len buffer) .reads ++ (r ∷ [])) (parse (take len buffer)))

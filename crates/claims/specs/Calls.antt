@@ -1,5 +1,7 @@
--- The entry points as one table: what each is given, what it answers and with which numbers, and what the memory that is lent to be written holds afterwards.
--- docs/API.md has the same list in the same order (tests/names compares the two). Assumes nothing: these are definitions.
+-- The entry points as one table: what each is given, what it answers and with which numbers, and what the memory that
+-- is lent to be written holds afterwards.
+-- docs/API.md has the same list in the same order (tests/names compares the two). Assumes nothing: these are
+-- definitions.
 use Prim.Native.Nat.{ℕ}
 use mathlib.Core.List.{List, [], _∷_}
 use lib.ListN.{length, replicate}
@@ -66,7 +68,8 @@ pub data Call : Type 0 where
   signal : List ℕ → ℕ → Call
   -- `sff_writer::new_file(buffer, flows, key)`
   new-file : List ℕ → List ℕ → List ℕ → Call
-  -- `sff_writer::append(buffer, file_length, name, clips, values, increments, bases, qualities)`: the read is one value here
+  -- `sff_writer::append(buffer, file_length, name, clips, values, increments, bases, qualities)`: the read is one value
+  -- here
   append : List ℕ → ℕ → Read → Call
   -- `sff_record::record_test(record)`
   record-test : List ℕ → Call
@@ -89,7 +92,8 @@ pub data Call : Type 0 where
   -- `service::sffstore_correct(buffer, file_length, record)`
   sffstore-correct : List ℕ → ℕ → List ℕ → Call
 
--- a row: the answer; the numbers that it may have beside 0; what each buffer that is lent to be written holds afterwards, and what it is to hold after a refusal
+-- a row: the answer; the numbers that it may have beside 0; what each buffer that is lent to be written holds
+-- afterwards, and what it is to hold after a refusal
 pub record Row : Type 0 where
   pub answer : Answer
   pub numbers : List ℕ

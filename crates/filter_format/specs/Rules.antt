@@ -1,4 +1,5 @@
--- What the ZTR and SCF rules of document 002 ask of encoded data, each unit by itself. Assumes nothing: these are definitions.
+-- What the ZTR and SCF rules of document 002 ask of encoded data, each unit by itself. Assumes nothing: these are
+-- definitions.
 use Prim.Native.Nat.{ℕ, zero, suc, _+_, _%_, _^_, _<_, _≤_}
 use mathlib.Core.Path.{_≡_}
 use mathlib.Core.Logic.{_⊎_}
@@ -9,8 +10,9 @@ use Rattle.answers.specs.Answer.{numberOf}
 use Rattle.filter_format.specs.Units.{unitsOf}
 use Rattle.filter_format.specs.Encode.{encode}
 
--- ZTR, format 64: "replaces successive bytes with their differences .. For determining the first difference we compare against zero .. unsigned values with
--- automatic an wrap-around". ys are the differences of xs modulo m: each with the unit before makes the unit
+-- ZTR, format 64: "replaces successive bytes with their differences .. For determining the first difference we compare
+-- against zero .. unsigned values with automatic an wrap-around". ys are the differences of xs modulo m: each with the
+-- unit before makes the unit
 pub record Differences (m : ℕ) (xs ys : List ℕ) : Type 0 where
   pub as-many : length ys ≡ length xs
   pub each : (i : ℕ) → i < length xs → (getD ys i 0 < m) × ((getD ys i 0 + getD (0 ∷ xs) i 0) % m ≡ getD xs i 0)
@@ -20,8 +22,9 @@ abbrev pub Rounds : ℕ → ℕ → List ℕ → List ℕ → Type 0
 Rounds m zero xs ys = ys ≡ xs
 Rounds m (suc level) xs ys = (zs : List ℕ) × Rounds m level xs zs × Differences m zs ys
 
--- the data s in units of w bytes, at a level, behind a header: formats 64, 65 ("the difference between successive 16-bit numbers") and 66; with no header SCF's
--- samples: "first: delta = current_value - previous_value, then: delta_delta = delta - previous_delta"
+-- the data s in units of w bytes, at a level, behind a header: formats 64, 65 ("the difference between successive
+-- 16-bit numbers") and 66; with no header SCF's samples: "first: delta = current_value - previous_value, then:
+-- delta_delta = delta - previous_delta"
 abbrev pub DeltaOf : List ℕ → ℕ → ℕ → List ℕ → List ℕ → Type 0
 DeltaOf header w level s block = (ys : List ℕ) × Rounds (256 ^ w) level (unitsOf w s) ys × (block ≡ header ++ unitBytes w ys)
 
@@ -29,7 +32,8 @@ DeltaOf header w level s block = (ys : List ℕ) × Rounds (256 ^ w) level (unit
 abbrev pub IsSmall : ℕ → ℕ → Type 0
 IsSmall w u = (u ≤ 127) ⊎ (256 ^ w ≤ u + 127)
 
--- "then it is written as a single signed byte in the output stream, otherwise we write out -128 followed by the 2-byte value (in big endian format)"
+-- "then it is written as a single signed byte in the output stream, otherwise we write out -128 followed by the 2-byte
+-- value (in big endian format)"
 pub record Shortened (w u : ℕ) (written : List ℕ) : Type 0 where
   pub small : IsSmall w u → written ≡ u % 256 ∷ []
   pub other : (IsSmall w u → ⊥) → written ≡ 128 ∷ bytesOf w u
@@ -42,8 +46,8 @@ AllShortened w (u ∷ us) ys = (written : List ℕ) × (rest : List ℕ) × Shor
 abbrev pub ShortenedOf : List ℕ → ℕ → List ℕ → List ℕ → Type 0
 ShortenedOf header w s block = (ys : List ℕ) × AllShortened w (unitsOf w s) ys × (block ≡ header ++ ys)
 
--- format 72: "The first character in the data block is stored as-is. Then for each subsequent character we store the difference between the predicted character value
--- (obtained by using follow[previous_character]) and the real value"
+-- format 72: "The first character in the data block is stored as-is. Then for each subsequent character we store the
+-- difference between the predicted character value (obtained by using follow[previous_character]) and the real value"
 pub record Predicted (follow xs ys : List ℕ) : Type 0 where
   pub as-many : length ys ≡ length xs
   pub first : getD ys 0 0 ≡ getD xs 0 0

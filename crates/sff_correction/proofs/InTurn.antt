@@ -1,4 +1,5 @@
--- A list's records in their turn: what the records before one have left, and that it is judged and carried out on that. Assumes nothing.
+-- A list's records in their turn: what the records before one have left, and that it is judged and carried out on that.
+-- Assumes nothing.
 use Prim.Native.Nat.{ℕ, zero, suc, _+_, _*_, _/_, _%_, _≤_, _<_}
 use mathlib.Core.Path.{_≡_, refl, sym, ap, _∙_}
 use mathlib.Core.Bool.{Bool, true, false}
@@ -50,7 +51,8 @@ first-run k b len l h =
     let d : length (firstRecords k l) / 96 ≡ k = rw n (omega arith) in
     rw (w, d, turns-alike k 0 b len (firstRecords k l) l (λ j q. part-take (96 * j) 96 (96 * k) l (omega arith) i))
 
--- "The first refusal ends it; earlier ones stand": a run leaves the buffer as those of its records that were carried out do, on any buffer
+-- "The first refusal ends it; earlier ones stand": a run leaves the buffer as those of its records that were carried
+-- out do, on any buffer
 pub record Earlier (m k : ℕ) (b : List ℕ) (len : ℕ) (l : List ℕ) : Type 0 where
   pub done : ℕ
   pub counted : turns m k b len l .outcome .count ≡ k + done

@@ -10,7 +10,7 @@ use lib.ListN.{length, getD}
 use lib.IntN.{pos, negsuc}
 use lib.Ieee.{fin, binary64, div, ofInt}
 use lib.Ieee.Exact.{HasValue}
-use Rattle.octets.specs.Parts.{up8}
+use Rattle.octets.specs.Parts.{part, up8}
 use Rattle.octets.specs.Numbers.{Bytes, Words, number}
 use Rattle.answers.specs.declared.Answer.the-variants.{Accepted, Refused}
 use Rattle.answers.specs.Answer.{numberOf, _then_}
@@ -23,12 +23,14 @@ use Rattle.sff_format.specs.FileTest.{fileTest}
 use Rattle.sff_format.specs.Parse.{parse}
 use Rattle.sff_format.specs.Places.{readAt}
 use Rattle.sff_format.specs.Insert.{insertFirst, insertLast, insertOf}
+use Rattle.sff_format.specs.View.{bytesIn, viewFirst, viewLast, insertIn, viewTest}
 use Rattle.sff_format.specs.Step.{State, found, stop, step, fresh, lastAnswer, readBack}
 use Rattle.sff_format.specs.Position.{positionTest, signalTest, viewOf, insertStretch, fileInsert, fileFirst, fileLast}
 use Rattle.sff_format.proofs.HeaderLaws.{characters-length}
 use Rattle.sff_format.proofs.FileLaid.{head-ok}
 use Rattle.sff_format.proofs.Positions.{insert-chosen, first-chosen, last-chosen, insert-inside, insert-length, position-there, position-none, position-refused, signal-none, signal-there, signal-position, signal-flows, flows-small, position-file, position-below, signal-refused}
 use Rattle.sff_format.proofs.Inserted.{insert-within}
+use Rattle.sff_format.proofs.ViewTests.{name-whole, values-whole, increments-whole, bases-whole, qualities-whole, insert-whole, found-accepted}
 use Rattle.sff_format.proofs.Steps.{stop-unmoved, found-moved, place-beyond, steps-end, reads-in-order, then-33}
 use Rattle.sff_format.proofs.InWords.{first-is, IsEnd, last-is, insert-empty, insert-at, fresh-passed, fresh-accepted, fresh-refused, read-keeps}
 use Rattle.sff_signal.specs.declared.Summary.{Summary}
@@ -104,6 +106,18 @@ step-refused = stop-unmoved
 
 pub step-moved : (b : List ℕ) (s next : State) (v : ReadView) → step b s ≡ found v next → next .passed-reads ≡ s .passed-reads + 1
 step-moved b s next v e = ap (λ (x : State). x .passed-reads) (found-moved b s next v e)
+
+-- the read that it found: the companion of a view's accessors accepts it, and where that accepts a view, whoever made it,
+-- each accessor hands out its part whole (`sff_view`)
+pub view-of-step : (b : List ℕ) (s : State) (v : ReadView) (next : State) → Bytes b → step b s ≡ found v next → viewTest b v ≡ Accepted
+view-of-step = found-accepted
+
+pub view-handed-out : (b : List ℕ) (v : ReadView) → viewTest b v ≡ Accepted
+    → (bytesIn b (v .name) ≡ part (v .name .at) (v .name .size) b) × (bytesIn b (v .values) ≡ part (v .values .at) (v .values .size) b)
+    × (bytesIn b (v .increments) ≡ part (v .increments .at) (v .increments .size) b) × (bytesIn b (v .bases) ≡ part (v .bases .at) (v .bases .size) b)
+    × (bytesIn b (v .qualities) ≡ part (v .qualities .at) (v .qualities .size) b) × (length (insertIn b v) ≡ suc (viewLast v) - viewFirst v)
+view-handed-out b v e =
+    (name-whole b v e .0, values-whole b v e .0, increments-whole b v e .0, bases-whole b v e .0, qualities-whole b v e .0, insert-whole b v e)
 
 -- "From a fresh state an accepted file's reads come in order, each once, then 33; a refused file gives the whole-file
 -- test's refusal at last" (`Reader::fresh`, `step`)

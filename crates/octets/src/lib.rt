@@ -34,6 +34,19 @@ pub fn greatest(x: usize, y: usize) -> usize
     if x < y { y } else { x }
 }
 
+// The same of 32 bits, of which the compiler compares four at a time.
+pub fn least32(a: u32, b: u32) -> u32
+    ensures { λ r. ⌜ r ≡ min a b ⌝ }
+{
+    if b < a { b } else { a }
+}
+
+pub fn greatest32(a: u32, b: u32) -> u32
+    ensures { λ r. ⌜ r ≡ max a b ⌝ }
+{
+    if a < b { b } else { a }
+}
+
 // The n bytes from `at` on, as a part of s; its empty front where they do not all lie in s.
 pub fn stretch(s: &[u8], at: usize, n: usize) -> &[u8]
     ensures { λ r. ⌜ now r ≡ wholePart at n (now (s .entry)) ⌝ }

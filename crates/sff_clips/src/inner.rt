@@ -4,9 +4,9 @@ ghost use Prim.Native.Nat.{_+_, _<_};
 ghost use Rattle.sff_format.specs.Rules.{leftLimit, rightLimit};
 ghost use Rattle.sff_format.specs.ReadTest.{clipTest};
 ghost use Rattle.sff_format.specs.View.{viewStretch};
-use answers::Answer;
 use crate::first_base;
 use crate::last_base;
+use answers::Answer;
 use sff_format::ReadView;
 use sff_format::Stretch;
 use sff_walk::BasePosition;
@@ -63,7 +63,10 @@ pub fn insert_stretch(view: ReadView) -> Stretch
     let last = last_base(view);
     let before = first.0 - 1;
     if last.0 < before {
-        return Stretch { at: before, size: 0 };
+        return Stretch {
+            at: before,
+            size: 0,
+        };
     }
     Stretch {
         at: before,

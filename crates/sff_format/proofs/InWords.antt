@@ -13,7 +13,7 @@ use lib.ListN.{length, take, getD}
 use Rattle.octets.specs.Parts.{up8}
 use Rattle.octets.specs.Numbers.{Bytes}
 use Rattle.octets.specs.Scans.{isFlowCharacter, isNameByte}
-use Rattle.octets.proofs.Lists.{length-part, getD-part}
+use Rattle.octets.proofs.Lists.{getD-part}
 use Rattle.octets.proofs.Every.{first-passes}
 use Rattle.answers.specs.declared.Answer.the-variants.{Accepted, Refused}
 use Rattle.answers.specs.Answer.{when, Refusing}

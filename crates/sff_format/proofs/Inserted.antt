@@ -59,7 +59,6 @@ module _ {characters : List ℕ} {r : Read} (v : ValidRead characters r) where
   pub insert-within : insertFirst r ≤ insertLast r → (1 ≤ insertFirst r) × (insertLast r ≤ length (r .bases))
   insert-within h = (first-least (r .quality-left) (r .adapter-left), last-in)
 
-
   -- so its stretch lies in any list with an entry for each base, and is as long there as the stretch says
   pub stretch-in : insertStretch r .at + insertStretch r .size ≤ length (r .bases)
   stretch-in = let f = first-in in let l = last-in in let o = first-least (r .quality-left) (r .adapter-left) in omega arith

@@ -18,7 +18,7 @@ use Rattle.sff_format.specs.FileTest.{boundaryTest, fileTest}
 use Rattle.sff_format.specs.Parse.{parseRead, parse}
 use Rattle.sff_format.specs.Places.{readAt, placeFrom, readPlace}
 use Rattle.sff_format.specs.Insert.{insertFirst, insertLast, insertOf}
-use Rattle.sff_format.specs.View.{viewAt, viewFirst, viewLast, bytesIn, viewStretch, insertIn}
+use Rattle.sff_format.specs.View.{viewAt, viewFirst, viewLast, bytesIn, insertIn}
 use Rattle.sff_format.specs.Position.{positionTest, signalTest, viewOf, fileInsert, fileFirst, fileLast}
 use Rattle.answers.proofs.Answers.{first-ok, second-ok, when-ok}
 use Rattle.sff_format.proofs.HeaderLaws.{fits-31, characters-length}
@@ -123,13 +123,13 @@ module _ (b : List ℕ) (i : ℕ) (e : positionTest b i ≡ Accepted) where
     last-chosen = sym last-view ∙ rw read-is (rw count at (last-viewed (flowCharacters b) b (readPlace b i) y there))
 
     -- it is a part of the file, within the bases of the read
-    pub insert-inside :
-        let v = viewOf b i in
-        (fileInsert b i ≡ part (v .bases .at + viewStretch v .at) (viewStretch v .size) b) × (viewStretch v .at + viewStretch v .size ≤ v .bases .size)
+    pub insert-inside : (fileInsert b i ≡ part (viewOf b i .bases .at + (fileFirst b i - 1)) (suc (fileLast b i) - fileFirst b i) b)
+        × (fileFirst b i - 1 + (suc (fileLast b i) - fileFirst b i) ≤ viewOf b i .bases .size)
     insert-inside =
         let d = rw count at (data-inside (flowCharacters b) b (readPlace b i) there) in
         let s = rw count at (stretch-viewed (flowCharacters b) b (readPlace b i) y there .1) in
-        (sym insert-view ∙ (rw count at (insert-part (flowCharacters b) b (readPlace b i) y there)) (viewOf b i .bases) refl (d .2), s)
+        let t = (rw count at (insert-part (flowCharacters b) b (readPlace b i) y there)) (viewOf b i .bases) refl (d .2) in
+        rw (← first-view, ← last-view) (sym insert-view ∙ t, s)
 
 -- as many bases as from the first to the last, none if it is refused
 pub insert-length : (b : List ℕ) (i : ℕ) → Bytes b → length (fileInsert b i) ≡ suc (fileLast b i) - fileFirst b i

@@ -12,8 +12,8 @@ use Rattle.sff_format.specs.FileTest.{indexDue, passTest, indexTest, pastIndex,
 use Rattle.sff_format.specs.Parse.{parseRead, parseReads, parse}
 use Rattle.sff_format.specs.Places.{placeFrom, readPlace}
 use Rattle.sff_format.specs.Insert.{firstBase, rightEnd, lastBase}
-use Rattle.sff_format.specs.View.{viewAt}
-use Rattle.sff_format.specs.Position.{positionTest, insertStretch, fileInsert, fileFirst, fileLast}
+use Rattle.sff_format.specs.View.{viewAt, insertIn}
+use Rattle.sff_format.specs.Position.{positionTest, fileInsert, fileFirst, fileLast}
 use Rattle.sff_correction.specs.Record.{nameFieldTest, unusedTest, newClipsTest, newNameTest, recordTest}
 use Rattle.sff_correction.specs.RecordLayout.{recordFields, layoutRecord}
 use Rattle.sff_correction.specs.Edit.{instead, edited}
@@ -27,5 +27,5 @@ use Rattle.filter_format.specs.Encode.{badGiven, badUnits, headerRest, encodedD
 use Rattle.claims.specs.Marked.{All, table}
 
 pub marked : All table
-unfolding wholePart putAt filled insertAt settled same bigEndianFrom number bytesOf fields unitBytes unitsAt run firstNot when shifted _then_ declared badIndexLength badIndex indexSize leftLimit rightLimit isFlow walkRun isCall callRun headerFields layoutHeader readFields layoutReadHeader layoutReadData layoutRead layoutReads layoutIndex layout fixedTest charactersTest headerTest nameTest clipTest basesTest dataTest readTest readEnd indexDue passTest indexTest pastIndex endTest boundaryTest fileTest parseRead parseReads parse placeFrom readPlace firstBase rightEnd lastBase viewAt positionTest acceptedOr insertStretch fileInsert fileFirst fileLast nameFieldTest unusedTest newClipsTest newNameTest recordTest recordFields layoutRecord instead edited clipsAbove bears reasons correctTest correctOutcome correctBuffer scan deltas undeltas deltaBytes undeltaBytes narrowUnit narrow extended widen lacking filterOf headerLength badHeader badData decoded undone contentsTest layerTest undoLayer badGiven badUnits headerRest encodedData encoded encodeTest encode
+unfolding wholePart putAt filled insertAt settled same bigEndianFrom number bytesOf fields unitBytes unitsAt run firstNot when shifted _then_ declared badIndexLength badIndex indexSize leftLimit rightLimit isFlow walkRun isCall callRun headerFields layoutHeader readFields layoutReadHeader layoutReadData layoutRead layoutReads layoutIndex layout fixedTest charactersTest headerTest nameTest clipTest basesTest dataTest readTest readEnd indexDue passTest indexTest pastIndex endTest boundaryTest fileTest parseRead parseReads parse placeFrom readPlace firstBase rightEnd lastBase viewAt positionTest acceptedOr insertIn fileInsert fileFirst fileLast nameFieldTest unusedTest newClipsTest newNameTest recordTest recordFields layoutRecord instead edited clipsAbove bears reasons correctTest correctOutcome correctBuffer scan deltas undeltas deltaBytes undeltaBytes narrowUnit narrow extended widen lacking filterOf headerLength badHeader badData decoded undone contentsTest layerTest undoLayer badGiven badUnits headerRest encodedData encoded encodeTest encode
 marked = (refl, (refl, (refl, ((refl, refl, refl), (refl, (refl, (refl, (refl, (refl, (refl, (refl, (refl, (refl, (refl, ((refl, refl), ((refl, refl), ((refl, refl), ((refl, refl), ((refl, refl), ((refl, refl), ((refl, refl), ((refl, refl), ((refl, refl), tt)))))))))))))))))))))))

@@ -34,7 +34,7 @@ pub record Listed (b : List ℕ) : Type 0 where
   pub line : (i : ℕ) → i < length (parse b .reads) → getD lines i []
       ≡ decimal i ++ (32 ∷ []) ++ orDash (readAt (parse b) i .name) ++ (32 ∷ []) ++ decimal (length (readAt (parse b) i .bases)) ++ (32 ∷ [])
       ++ decimal (insertFirst (readAt (parse b) i)) ++ (32 ∷ []) ++ decimal (insertLast (readAt (parse b) i)) ++ (32 ∷ [])
-      ++ orDash (insertOf (readAt (parse b) i)) ++ (10 ∷ [])
+      ++ orDash (insertOf (readAt (parse b) i) (readAt (parse b) i .bases)) ++ (10 ∷ [])
   -- "flows ", " key ", " reads "
   pub text : printed b
       ≡ (102 ∷ 108 ∷ 111 ∷ 119 ∷ 115 ∷ 32 ∷ []) ++ decimal (length (parse b .flow-characters)) ++ (32 ∷ 107 ∷ 101 ∷ 121 ∷ 32 ∷ []) ++ orDash (parse b .key)

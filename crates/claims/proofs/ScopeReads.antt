@@ -25,7 +25,7 @@ use Rattle.sff_format.specs.Places.{readAt}
 use Rattle.sff_format.specs.Insert.{insertFirst, insertLast, insertOf}
 use Rattle.sff_format.specs.View.{bytesIn, viewFirst, viewLast, insertIn, viewTest}
 use Rattle.sff_format.specs.Step.{State, found, stop, step, fresh, lastAnswer, readBack}
-use Rattle.sff_format.specs.Position.{positionTest, signalTest, viewOf, insertStretch, fileInsert, fileFirst, fileLast}
+use Rattle.sff_format.specs.Position.{positionTest, signalTest, viewOf, fileInsert, fileFirst, fileLast}
 use Rattle.sff_format.proofs.HeaderLaws.{characters-length}
 use Rattle.sff_format.proofs.FileLaid.{head-ok}
 use Rattle.sff_format.proofs.Positions.{insert-chosen, first-chosen, last-chosen, insert-inside, insert-length, position-there, position-none, position-refused, signal-none, signal-there, signal-position, signal-flows, flows-small, position-file, position-below, signal-refused}
@@ -43,7 +43,7 @@ use Rattle.claims.proofs.ScopeCases.{signal-in-E}
 -- INSERT. "Given a file and a position, the insert's bases are handed over": of an accepted position, those of the
 -- read there, from its first to its last base (`sff_insert`)
 pub insert-of-read : (b : List ℕ) (i : ℕ) → Bytes b → positionTest b i ≡ Accepted
-    → (fileInsert b i ≡ insertOf (readAt (parse b) i)) × (fileFirst b i ≡ insertFirst (readAt (parse b) i)) × (fileLast b i ≡ insertLast (readAt (parse b) i))
+    → (fileInsert b i ≡ insertOf (readAt (parse b) i) (readAt (parse b) i .bases)) × (fileFirst b i ≡ insertFirst (readAt (parse b) i)) × (fileLast b i ≡ insertLast (readAt (parse b) i))
 insert-of-read b i y a = (insert-chosen b i a y, first-chosen b i a y, last-chosen b i a y)
 
 -- "First = max(1, both lefts)": none of the three is above it, and it is one of them
@@ -60,17 +60,17 @@ last-of-insert r q a h k = last-is (length (r .bases)) (r .quality-right) (r .ad
 -- "If first > last the insert is empty", and else it is not; its bases are the read's from first to last, both counted
 -- from 1
 pub insert-empty-exactly : (characters : List ℕ) (r : Read) → ValidRead characters r
-    → (length (insertOf r) ≡ 0) ↔ (insertLast r < insertFirst r)
+    → (length (insertOf r (r .bases)) ≡ 0) ↔ (insertLast r < insertFirst r)
 insert-empty-exactly characters r v = insert-empty v
 
 pub insert-base : (r : Read) (j : ℕ) → insertFirst r + j ≤ insertLast r
-    → getD (insertOf r) j 0 ≡ getD (r .bases) (insertFirst r + j - 1) 0
-insert-base = insert-at
+    → getD (insertOf r (r .bases)) j 0 ≡ getD (r .bases) (insertFirst r + j - 1) 0
+insert-base r = insert-at r (r .bases)
 
--- "as a stretch of the caller's own file": a stretch of the read's bases there
+-- "as a stretch of the caller's own file": the part of it from the first to the last of the read's bases there
 pub insert-within-bases : (b : List ℕ) (i : ℕ) → Bytes b → positionTest b i ≡ Accepted
-    → (viewOf b i .bases .at ≤ insertStretch (viewOf b i) .at)
-    × (insertStretch (viewOf b i) .at + insertStretch (viewOf b i) .size ≤ viewOf b i .bases .at + viewOf b i .bases .size)
+    → (fileInsert b i ≡ part (viewOf b i .bases .at + (fileFirst b i - 1)) (suc (fileLast b i) - fileFirst b i) b)
+    × (fileFirst b i - 1 + (suc (fileLast b i) - fileFirst b i) ≤ viewOf b i .bases .size)
     × (length (fileInsert b i) ≡ suc (fileLast b i) - fileFirst b i)
 insert-within-bases b i y a = let h = insert-inside b i a y in (h .0, h .1, insert-length b i y)
 
@@ -115,7 +115,7 @@ view-of-step = found-accepted
 pub view-handed-out : (b : List ℕ) (v : ReadView) → viewTest b v ≡ Accepted
     → (bytesIn b (v .name) ≡ part (v .name .at) (v .name .size) b) × (bytesIn b (v .values) ≡ part (v .values .at) (v .values .size) b)
     × (bytesIn b (v .increments) ≡ part (v .increments .at) (v .increments .size) b) × (bytesIn b (v .bases) ≡ part (v .bases .at) (v .bases .size) b)
-    × (bytesIn b (v .qualities) ≡ part (v .qualities .at) (v .qualities .size) b) × (length (insertIn b v) ≡ suc (viewLast v) - viewFirst v)
+    × (bytesIn b (v .qualities) ≡ part (v .qualities .at) (v .qualities .size) b) × (length (insertIn v (bytesIn b (v .bases))) ≡ suc (viewLast v) - viewFirst v)
 view-handed-out b v e =
     (name-whole b v e .0, values-whole b v e .0, increments-whole b v e .0, bases-whole b v e .0, qualities-whole b v e .0, insert-whole b v e)
 

@@ -17,15 +17,15 @@ use Rattle.sff_format.specs.Parse.{parse}
 use Rattle.sff_format.specs.Insert.{insertFirst, insertLast, insertOf}
 use Rattle.sff_format.proofs.Sizes.{length-header, length-head, length-data}
 use Rattle.sff_format.proofs.FileLaid.{file-laid}
-use Rattle.sff_format.proofs.Inserted.{length-insert}
+use Rattle.sff_format.proofs.Inserted.{insert-most}
 use Rattle.lines.proofs.Lengths.{header-line-short, read-line-short, refusal-line-short}
 use Rattle.listing.specs.Listing.{lineOf, linesFrom, fileLines, listed, listing, enough}
 
 line-short : (i : ℕ) (r : Read) → length (lineOf i r) ≤ 7 * length (layoutRead r)
 unfolding layoutRead
 line-short i r =
-    let l = read-line-short i (r .name) (length (r .bases)) (insertFirst r) (insertLast r) (insertOf r) in
-    let n = length-insert r in
+    let l = read-line-short i (r .name) (length (r .bases)) (insertFirst r) (insertLast r) (insertOf r (r .bases)) in
+    let n = insert-most r (r .bases) in
     let h = length-head r in
     let d = length-data r in
     rw length-append (omega arith)

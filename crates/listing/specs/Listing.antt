@@ -16,7 +16,7 @@ use Rattle.lines.specs.Lines.{headerLine, readLine, refusalLine, tooLong}
 
 -- "A read's line is position, name, N, first, last, insert"
 abbrev pub lineOf : ℕ → Read → List ℕ
-lineOf position r = readLine position (r .name) (length (r .bases)) (insertFirst r) (insertLast r) (insertOf r)
+lineOf position r = readLine position (r .name) (length (r .bases)) (insertFirst r) (insertLast r) (insertOf r (r .bases))
 
 -- the lines of reads from a position on
 unfoldable pub linesFrom : ℕ → List Read → List ℕ
@@ -54,4 +54,4 @@ printedIn room b = cond (ltb room (enough 65536)) [] (printed b)
 
 -- what the code puts for a read: its line, from its places in the file b
 unfoldable pub viewLine : List ℕ → ℕ → ReadView → List ℕ
-viewLine b position v = readLine position (bytesIn b (v .name)) (v .bases .size) (viewFirst v) (viewLast v) (insertIn b v)
+viewLine b position v = readLine position (bytesIn b (v .name)) (v .bases .size) (viewFirst v) (viewLast v) (insertIn v (bytesIn b (v .bases)))

@@ -133,6 +133,10 @@ drop-take at to l h k =
 pub part-take : (p n to : ℕ) (l : List ℕ) → p + n ≤ to → to ≤ length l → part p n (take to l) ≡ part p n l
 part-take p n to l h k = rw (drop-take p to l (omega arith) k) (take-take n (to - p) (drop p l) (omega arith))
 
+-- a part of a part
+pub part-in : (j k from n : ℕ) (l : List ℕ) → j + k ≤ n → from + n ≤ length l → part j k (part from n l) ≡ part (from + j) k l
+part-in j k from n l h i = rw (part-take j k n (drop from l) h (rw length-drop (omega arith)), drop-drop)
+
 -- a part put where it stands
 pub put-same : (at n : ℕ) (l : List ℕ) → at + n ≤ length l → putAt at (part at n l) l ≡ l
 unfolding putAt

@@ -9,7 +9,7 @@ use borrow.Author.Needs.{needs}
 use lib.ListN.{replicate, length-replicate, getD-replicate, length, take, drop, set, getD, length-set, length-drop, take-append-drop, drop-of-length-le}
 use lib.Seq.{take-suc, drop-cons, take-all, take-add, drop-drop, length-take-le}
 use Rattle.octets.specs.Parts.{putAt, part}
-use Rattle.octets.proofs.Lists.{put-nil, put-snoc, put-cons, put-next, put-before, length-put, getD-before, getD-after, length-part, getD-part, part-take, part-put, part-before, part-after}
+use Rattle.octets.proofs.Lists.{put-nil, put-snoc, put-cons, put-next, put-before, length-put, getD-before, getD-after, length-part, getD-part, part-in, part-put, part-before, part-after}
 
 -- s is s₀ with the first j elements of xs put
 pub record Up (at n : ℕ) (xs s₀ s : List ℕ) (j : ℕ) : Type 0 where
@@ -96,11 +96,6 @@ pub moved-through : (from to k : ℕ) (b s : List ℕ) {held t : List ℕ} → l
 moved-through from to k b s e h i w = rw (w, i, part-put 0 k (part from k s) b (length-part from k s h) (omega arith))
 
 -- A block of k elements moved at once, of a move whose two stretches may overlap: what it reads is still as it was.
-part-in : (j k from n : ℕ) (l : List ℕ) → j + k ≤ n → from + n ≤ length l → part j k (part from n l) ≡ part (from + j) k l
-part-in j k from n l h i =
-    let len : n ≤ length (drop from l) = simp length-drop (omega arith) in
-    part-take j k n (drop from l) h len ∙ ap (λ (r : List ℕ). take k r) (drop-drop j from l)
-
 module _ {at from n : ℕ} {s₀ s : List ℕ} {j : ℕ} where
   pub up-block : Up at n (part from n s₀) s₀ s j → at ≤ from → from + n ≤ length s₀ → (k : ℕ) → j + k ≤ n → {t : List ℕ} → t ≡ putAt (at + j) (part (from + j) k s) s → Up at n (part from n s₀) s₀ t (j + k)
   up-block u h i k l {t} w =

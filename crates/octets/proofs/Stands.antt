@@ -2,16 +2,16 @@
 use Prim.Native.Nat.{ℕ, zero, suc, _+_, _-_, _*_, _^_, _≤_, _<_, min}
 use mathlib.Core.Path.{_≡_, refl, sym, ap, _∙_}
 use mathlib.Core.Bool.{Bool, true, false}
-use mathlib.Core.List.{List, [], _∷_, _++_}
+use mathlib.Core.List.{List, [], _∷_, _++_, append-assoc}
 use native.Mathlib.Nat.{mul-suc}
 use native.Mathlib.Omega.{arith}
 use borrow.Author.Tests.{eqb-true}
 use lib.ListN.{length, take, drop, replicate, length-append, length-take, length-drop, length-replicate}
 use lib.Seq.{take-add, drop-drop, take-at, drop-at, take-length}
-use Rattle.octets.specs.Parts.{part, filled}
+use Rattle.octets.specs.Parts.{part, putAt, filled}
 use Rattle.octets.specs.Numbers.{bigEndian, bytesOf, Below, Bytes, number, fields, unitBytes, unitsAt}
 use Rattle.octets.specs.Scans.{run, isZero, Every, fails}
-use Rattle.octets.proofs.Lists.{length-part, part-take}
+use Rattle.octets.proofs.Lists.{length-part, part-take, put-over}
 use Rattle.octets.proofs.Digits.{length-bytesOf, bigEndian-fits, bytesOf-bigEndian, bigEndian-small}
 use Rattle.octets.proofs.AllBytes.{bytes-part}
 use Rattle.octets.proofs.Every.{none-fails, every-left}
@@ -156,6 +156,18 @@ pub length-fields : (xs : List (ℕ × ℕ)) → length (fields xs) ≡ width xs
 unfolding fields
 length-fields [] = refl
 length-fields (x ∷ xs) = rw (length-append, length-bytesOf, length-fields xs)
+
+pub fields-append : (xs ys : List (ℕ × ℕ)) → fields (xs ++ ys) ≡ fields xs ++ fields ys
+unfolding fields
+fields-append [] ys = refl
+fields-append (x ∷ xs) ys = rw (fields-append xs ys, append-assoc)
+
+-- another number in one of them is its bytes put where it stands
+pub field-put : (us ws : List (ℕ × ℕ)) (w x y : ℕ) (tail : List ℕ) → fields (us ++ ((w, y) ∷ ws)) ++ tail ≡ putAt (width us) (bytesOf w y) (fields (us ++ ((w, x) ∷ ws)) ++ tail)
+unfolding fields
+field-put us ws w x y tail =
+    let put = put-over (fields us) (bytesOf w y) (bytesOf w x) (fields ws ++ tail) (rw (length-bytesOf, length-bytesOf)) in
+    rw (fields-append us ((w, y) ∷ ws), fields-append us ((w, x) ∷ ws), ← (length-fields us)) (simp append-assoc (sym put))
 
 pub fields-stand : (b : List ℕ) → Bytes b → (xs : List (ℕ × ℕ)) (p k : ℕ) → p + k + width xs ≤ length b → Numbers b p k xs → Stands (p + k) (fields xs) b
 unfolding fields

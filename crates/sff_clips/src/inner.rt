@@ -1,9 +1,14 @@
-// For the crates above, which know that a read has fewer than 2^32 bases and that its place leaves room for its fields: hence each `requires`.
+// For the crates above. Those that test clips know that a read has fewer than 2^32 bases and that its place leaves room for its fields: hence each `requires`.
 ghost use mathlib.Core.Path.{_≡_};
 ghost use Prim.Native.Nat.{_+_, _<_};
 ghost use Rattle.sff_format.specs.Rules.{leftLimit, rightLimit};
 ghost use Rattle.sff_format.specs.ReadTest.{clipTest};
+ghost use Rattle.sff_format.specs.View.{viewStretch};
+use crate::first_base;
+use crate::last_base;
 use answers::Answer;
+use sff_format::ReadView;
+use sff_format::Stretch;
 use sff_walk::BasePosition;
 
 // What a left and a right clip of a read may hold at most.
@@ -48,4 +53,23 @@ pub fn clip_test(
         return Answer::Refused(9, p + 14);
     }
     Answer::Accepted
+}
+
+// Where the insert lies in whatever a read has one of for each base: its bases, its qualities.
+pub fn insert_stretch(view: ReadView) -> Stretch
+    ensures { λ r. ⌜ r ≡ viewStretch view ⌝ }
+{
+    let first = first_base(view);
+    let last = last_base(view);
+    let before = first.0 - 1;
+    if last.0 < before {
+        return Stretch {
+            at: before,
+            size: 0,
+        };
+    }
+    Stretch {
+        at: before,
+        size: last.0 - before,
+    }
 }

@@ -1,24 +1,23 @@
 -- What an append asks and what it leaves: the file written afresh with one read more. Assumes nothing.
-use Prim.Native.Nat.{ℕ, _+_, _≤_, _<_}
-use mathlib.Core.Path.{_≡_, refl, sym, ap, _∙_}
+use Prim.Native.Nat.{ℕ, _+_, _≤_}
+use mathlib.Core.Path.{_≡_, refl, ap, _∙_}
 use mathlib.Core.Bool.{false}
 use mathlib.Core.List.{List, [], _∷_, _++_}
 use native.Mathlib.Omega.{arith}
 use lib.ListN.{length, take, length-append, take-append-drop}
 use borrow.Author.Tests.{ne-eqb, eqb-false}
-use Rattle.octets.specs.Parts.{putAt, up8, part}
+use Rattle.octets.specs.Parts.{putAt, part}
 use Rattle.octets.specs.Numbers.{bytesOf, Bytes}
-use Rattle.octets.specs.Scans.{Every, isFlowCharacter}
 use Rattle.octets.proofs.Lists.{length-put, put-next, put-front}
 use Rattle.octets.proofs.Digits.{length-bytesOf}
 use Rattle.answers.specs.declared.Answer.the-variants.{Accepted}
-use Rattle.sff_format.specs.Rules.{declared, badIndex}
+use Rattle.sff_format.specs.Rules.{declared}
 use Rattle.answers.specs.Answer.{acceptedOr}
-use Rattle.sff_format.specs.Model.{Read, File, noIndex, layoutRead, layout, withReads}
-use Rattle.sff_format.specs.Valid.{ValidReads, Valid}
+use Rattle.sff_format.specs.Model.{Read, noIndex, layoutRead, layout, withReads}
+use Rattle.sff_format.specs.Valid.{Valid}
 use Rattle.sff_format.specs.HeaderTest.{indexOffset, indexLength, readCount, flowCharacters, keyCharacters}
 use Rattle.sff_format.specs.FileTest.{fileTest}
-use Rattle.sff_format.specs.Writing.{newFile, givenTest, openTest, appendTest, appendOutcome, appendBuffer, Lent}
+use Rattle.sff_format.specs.Writing.{givenTest, openTest, appendTest, appendOutcome, appendBuffer, Lent}
 use Rattle.answers.proofs.Answers.{first-ok, second-ok, both-ok, when-ok, ok-when, under-ok, ok-under}
 use Rattle.sff_format.proofs.Sizes.{length-header}
 use Rattle.sff_format.proofs.Appended.{layout-plain, appended}
@@ -27,28 +26,7 @@ use lib.Seq.{length-take-le}
 use Rattle.sff_format.specs.Parse.{parse}
 use Rattle.sff_format.proofs.Boundaries.{undeclared}
 use Rattle.sff_format.proofs.FileLaid.{reads-counted, file-laid, file-valid}
-use Rattle.sff_format.proofs.Keeps.{valid-append}
-
--- a file with no index
-abbrev pub plain : List ℕ → List ℕ → List Read → File
-plain characters key rs = withReads rs (newFile characters key)
-
--- it keeps the rules where its characters, their number, the count and the reads do
-pub plain-valid : (characters key : List ℕ) (rs : List Read) → Every isFlowCharacter (characters ++ key) → up8 (31 + length characters + length key) < 65536
-    → length rs < 4294967296 → ValidReads characters rs → Valid (plain characters key rs)
-unfolding badIndex declared
-plain-valid characters key rs c h n g = record {
-  characters-good = c;
-  header-fits = h;
-  count-fits = n;
-  index-fits = (omega arith, omega arith, tt);
-  index-good = refl;
-  index-met = λ e. absurd (let z : _≡_ {A = ℕ} 0 1 = cc in let a : ⊥ = omega arith in a);
-  reads-good = g;
-}
-
-pub is-plain : (f : File) → f .index ≡ noIndex → plain (f .flow-characters) (f .key) (f .reads) ≡ f
-is-plain f e = λ j. record { flow-characters = f .flow-characters; key = f .key; index = sym e j; reads = f .reads }
+use Rattle.sff_format.proofs.Keeps.{valid-append, plain, is-plain, plain-valid}
 
 module _ (characters key : List ℕ) (us : List Read) where
   -- the header alone has room for the count

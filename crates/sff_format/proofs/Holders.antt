@@ -21,9 +21,9 @@ use Rattle.sff_format.proofs.HeaderLaws.{count-is, characters-are}
 use Rattle.sff_format.proofs.FileLaid.{reads-counted, file-valid}
 use Rattle.sff_format.proofs.FileTaken.{header-first, file-taken, file-back}
 use Rattle.sff_format.proofs.Written.{layout-bytes}
-use Rattle.sff_format.proofs.Keeps.{valid-at}
+use Rattle.sff_format.proofs.Keeps.{valid-at, plain, plain-valid}
 use Rattle.sff_format.proofs.Given.{given-valid, valid-given}
-use Rattle.sff_format.proofs.Appends.{plain, plain-valid, carried, carried-out}
+use Rattle.sff_format.proofs.Appends.{carried, carried-out}
 
 module _ (characters : List ℕ) (r : Read) where
   -- a read that an accepted file holds keeps the rules of its flow characters

@@ -13,7 +13,7 @@ use lib.ListN.{length, take, getD}
 use Rattle.octets.specs.Parts.{up8}
 use Rattle.octets.specs.Numbers.{Bytes}
 use Rattle.octets.specs.Scans.{isFlowCharacter, isNameByte}
-use Rattle.octets.proofs.Lists.{length-part, getD-part}
+use Rattle.octets.proofs.Lists.{getD-part}
 use Rattle.octets.proofs.Every.{first-passes}
 use Rattle.answers.specs.declared.Answer.the-variants.{Accepted, Refused}
 use Rattle.answers.specs.Answer.{when, Refusing}
@@ -32,7 +32,7 @@ use Rattle.sff_format.proofs.HeaderLaws.{header-sized, index-good}
 use Rattle.sff_format.proofs.Boundaries.{undeclared}
 use Rattle.sff_format.proofs.FileLaid.{reads-counted, file-valid}
 use Rattle.sff_format.proofs.Keeps.{valid-at}
-use Rattle.sff_format.proofs.Inserted.{first-least, first-in, last-in}
+use Rattle.sff_format.proofs.Inserted.{first-least, length-insert}
 
 -- "Name bytes are 33 to 126"
 pub name-byte : (x : ℕ) → (isNameByte x ≡ true) ↔ ((33 ≤ x) × (x ≤ 126))
@@ -189,25 +189,15 @@ unfolding lastBase
 last-is n q a e f h k = rw (end-is n q e h, end-is n a f k) (omega arith, omega arith, min-is e f)
 
 -- "If first > last the insert is empty", and else it has the bases from first to last, both counted from 1
-module _ {characters : List ℕ} {r : Read} (v : ValidRead characters r) where
-  insert-size : length (insertOf r) ≡ suc (insertLast r) - insertFirst r
-  unfolding insertOf
-  insert-size =
-      let f = first-in v in
-      let l = last-in v in
-      let o = first-least (r .quality-left) (r .adapter-left) in
-      length-part (insertFirst r - 1) (suc (insertLast r) - insertFirst r) (r .bases) (omega arith)
+pub insert-empty : {characters : List ℕ} {r : Read} → ValidRead characters r → (length (insertOf r (r .bases)) ≡ 0) ↔ (insertLast r < insertFirst r)
+insert-empty {r = r} v = let s = length-insert v (r .bases) refl in (λ e. omega arith, λ h. omega arith)
 
-  pub insert-empty : (length (insertOf r) ≡ 0) ↔ (insertLast r < insertFirst r)
-  insert-empty = let s = insert-size in (λ e. omega arith, λ h. omega arith)
-
-pub insert-at : (r : Read) (j : ℕ) → insertFirst r + j ≤ insertLast r
-    → getD (insertOf r) j 0 ≡ getD (r .bases) (insertFirst r + j - 1) 0
+pub insert-at : (r : Read) (xs : List ℕ) (j : ℕ) → insertFirst r + j ≤ insertLast r → getD (insertOf r xs) j 0 ≡ getD xs (insertFirst r + j - 1) 0
 unfolding insertOf
-insert-at r j h =
+insert-at r xs j h =
     let o = first-least (r .quality-left) (r .adapter-left) in
     let e : insertFirst r - 1 + j ≡ insertFirst r + j - 1 = omega arith in
-    getD-part (insertFirst r - 1) (suc (insertLast r) - insertFirst r) (r .bases) j (omega arith) ∙ ap (λ (i : ℕ). getD (r .bases) i 0) e
+    getD-part (insertFirst r - 1) (suc (insertLast r) - insertFirst r) xs j (omega arith) ∙ ap (λ (i : ℕ). getD xs i 0) e
 
 -- 8: "just one index field is 0, or index length under 8 or not a multiple of 8"; both fields 0 say that there is none
 abbrev pub BadIndex : ℕ → ℕ → Type 0

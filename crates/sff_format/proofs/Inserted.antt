@@ -1,26 +1,26 @@
--- The insert lies within the read, and a view's insert is the read's. Assumes nothing.
-use Prim.Native.Nat.{ℕ, suc, _+_, _-_, _*_, _≤_}
+-- The insert lies within the read, so it is as long in every list with an entry for each base; and a view's insert is the read's. Assumes nothing.
+use Prim.Native.Nat.{ℕ, _+_, _≤_}
 use mathlib.Core.Bool.{Bool, true, false, cond}
-use mathlib.Core.Path.{_≡_, refl, sym, ap}
+use mathlib.Core.Path.{_≡_, refl, sym, ap, _∙_}
 use mathlib.Core.List.{List}
 use native.Mathlib.Omega.{arith}
-use lib.ListN.{length, take, drop, length-take, length-drop}
-use lib.Seq.{take-take, drop-drop}
+use lib.ListN.{length, length-take, length-drop}
 use lib.Dec.{eqb}
-use Rattle.octets.specs.Parts.{part, wholePart}
+use Rattle.octets.specs.Parts.{part}
 use Rattle.octets.specs.Numbers.{Bytes}
-use Rattle.octets.proofs.Lists.{length-part, drop-take, whole-in}
+use Rattle.octets.proofs.Lists.{length-part, part-in, whole-in}
 use Rattle.answers.specs.declared.Answer.the-variants.{Accepted}
+use Rattle.sff_format.specs.declared.Stretch.{Stretch}
+use Rattle.sff_format.specs.declared.ReadView.{ReadView}
 use Rattle.sff_format.specs.Model.{Read}
 use Rattle.sff_format.specs.Rules.{leftLimit, rightLimit}
 use Rattle.sff_format.specs.Valid.{ValidRead}
-use Rattle.sff_format.specs.ReadTest.{sectionLength, baseCount, qualityRight, adapterRight, readTest}
+use Rattle.sff_format.specs.ReadTest.{qualityRight, adapterRight, readTest}
 use Rattle.sff_format.specs.Parse.{parseRead}
-use Rattle.sff_format.specs.Insert.{firstBase, rightEnd, lastBase, insertFirst, insertLast, insertOf}
-use Rattle.sff_format.specs.View.{viewAt, viewFirst, viewLast, bytesIn, insertIn}
-use Rattle.sff_format.specs.Position.{insertStretch}
-use Rattle.sff_format.proofs.ReadLaid.{data-fits, read-valid}
-use Rattle.sff_format.proofs.Views.{bases-viewed}
+use Rattle.sff_format.specs.Insert.{firstBase, rightEnd, lastBase, insertFirst, insertLast, insertStretch, insertOf}
+use Rattle.sff_format.specs.View.{viewAt, viewFirst, viewLast, bytesIn, viewStretch, insertIn}
+use Rattle.sff_format.proofs.ReadLaid.{read-valid}
+use Rattle.sff_format.proofs.Views.{data-inside, bases-viewed, qualities-viewed}
 
 -- what a right clip within its limit stands for
 right-in : (n clip : ℕ) → clip ≤ rightLimit n → rightEnd n clip ≤ n
@@ -59,76 +59,62 @@ module _ {characters : List ℕ} {r : Read} (v : ValidRead characters r) where
   pub insert-within : insertFirst r ≤ insertLast r → (1 ≤ insertFirst r) × (insertLast r ≤ length (r .bases))
   insert-within h = (first-least (r .quality-left) (r .adapter-left), last-in)
 
--- n bytes from x on within `size` bytes from `at` on
-within : (at size x n : ℕ) (b : List ℕ) → at + size ≤ length b → x + n ≤ size → wholePart (at + x) n b ≡ wholePart x n (wholePart at size b)
-within at size x n b f h =
-    let l : length (part at size b) ≡ size = length-part at size b f in
-    let i : wholePart x n (part at size b) ≡ part x n (part at size b) = whole-in x n (part at size b) (rw l h) in
-    let d : drop x (take size (drop at b)) ≡ part x (size - x) (drop at b) = drop-take x size (drop at b) (omega arith) (rw length-drop (omega arith)) in
-    rw (whole-in at size b f, i, whole-in (at + x) n b (omega arith), d, take-take n (size - x) (drop x (drop at b)) (omega arith), drop-drop)
+  -- so its stretch lies in any list with an entry for each base, and is as long there as the stretch says
+  pub stretch-in : insertStretch r .at + insertStretch r .size ≤ length (r .bases)
+  stretch-in = let f = first-in in let l = last-in in let o = first-least (r .quality-left) (r .adapter-left) in omega arith
+
+  pub length-insert : (xs : List ℕ) → length xs ≡ length (r .bases) → length (insertOf r xs) ≡ insertStretch r .size
+  unfolding insertOf
+  length-insert xs n = let s = stretch-in in length-part (insertStretch r .at) (insertStretch r .size) xs (omega arith)
 
 module _ (characters b : List ℕ) (p : ℕ) (y : Bytes b) (e : readTest characters b p ≡ Accepted) where
-  bases-fit : let v = viewAt (length characters) b p in v .bases .at + v .bases .size ≤ length b
-  unfolding viewAt
-  bases-fit = let f = data-fits characters b p e in omega arith
+  abbrev view : ReadView
+  view = viewAt (length characters) b p
 
-  pub size-viewed : viewAt (length characters) b p .bases .size ≡ length (parseRead (length characters) b p .bases)
+  abbrev read : Read
+  read = parseRead (length characters) b p
+
+  valid : ValidRead characters read
+  valid = read-valid characters b p y e
+
+  pub size-viewed : view .bases .size ≡ length (read .bases)
   unfolding viewAt parseRead
-  size-viewed =
-      let f = data-fits characters b p e in
-      sym (length-part (p + sectionLength b p + 2 * length characters + baseCount b p) (baseCount b p) b (omega arith))
+  size-viewed = sym (length-part _ _ b (data-inside characters b p e .2))
 
-  pub first-viewed : viewFirst (viewAt (length characters) b p) ≡ insertFirst (parseRead (length characters) b p)
+  pub first-viewed : viewFirst view ≡ insertFirst read
   unfolding viewAt parseRead
   first-viewed = refl
 
-  pub last-viewed : viewLast (viewAt (length characters) b p) ≡ insertLast (parseRead (length characters) b p)
+  pub last-viewed : viewLast view ≡ insertLast read
   unfolding viewAt parseRead
   last-viewed = ap (λ (n : ℕ). lastBase n (qualityRight b p) (adapterRight b p)) size-viewed
 
-  -- the insert of a view is the insert of the read
-  pub insert-viewed : insertIn b (viewAt (length characters) b p) ≡ insertOf (parseRead (length characters) b p)
+  pub stretch-viewed : (viewStretch view ≡ insertStretch read) × (viewStretch view .at + viewStretch view .size ≤ view .bases .size)
+  stretch-viewed = (rw (first-viewed, last-viewed), rw (first-viewed, last-viewed, size-viewed) (stretch-in valid))
+
+  -- the insert of a list with an entry for each base, by the view and by the read
+  list-viewed : (xs : List ℕ) → length xs ≡ length (read .bases) → insertIn view xs ≡ insertOf read xs
   unfolding insertIn insertOf
-  insert-viewed =
-      let r : Read = parseRead (length characters) b p in
-      let v = read-valid characters b p y e in
-      let f = first-in v in
-      let l = last-in v in
-      let o = first-least (r .quality-left) (r .adapter-left) in
-      rw (first-viewed, last-viewed, bases-viewed characters b p e) (whole-in (insertFirst r - 1) (suc (insertLast r) - insertFirst r) (r .bases) (omega arith))
+  list-viewed xs n = rw (first-viewed, last-viewed) (whole-in _ _ xs (rw n (stretch-in valid)))
 
-  -- its first and last base lie in its bases, or right after each other at an end of them
-  pub limits : let v = viewAt (length characters) b p in (1 ≤ viewFirst v) × (viewFirst v ≤ v .bases .size + 1) × (viewLast v ≤ v .bases .size)
-  limits =
-      let v = read-valid characters b p y e in
-      let r = parseRead (length characters) b p in
-      rw (first-viewed, last-viewed, size-viewed) (first-least (r .quality-left) (r .adapter-left), first-in v, last-in v)
+  pub insert-viewed : insertIn view (bytesIn b (view .bases)) ≡ insertOf read (read .bases)
+  insert-viewed = rw (bases-viewed characters b p e) (list-viewed (read .bases) refl)
 
-  -- the insert's stretch lies within the stretch of the bases
-  pub stretch-within :
-      let v = viewAt (length characters) b p in
-      (v .bases .at ≤ insertStretch v .at) × (insertStretch v .at + insertStretch v .size ≤ v .bases .at + v .bases .size)
-  unfolding insertStretch
-  stretch-within = let l = limits in (omega arith, omega arith)
+  pub qualities-inserted : insertIn view (bytesIn b (view .qualities)) ≡ insertOf read (read .qualities)
+  qualities-inserted = rw (qualities-viewed characters b p e) (list-viewed (read .qualities) (valid .qualities-count))
 
-  pub stretch-length : let v = viewAt (length characters) b p in length (bytesIn b (insertStretch v)) ≡ suc (viewLast v) - viewFirst v
-  unfolding insertStretch
-  stretch-length =
-      let v = viewAt (length characters) b p in
-      let f = bases-fit in
-      let l = limits in
-      let x : v .bases .at + (viewFirst v - 1) + (suc (viewLast v) - viewFirst v) ≤ length b = omega arith in
-      rw (whole-in (v .bases .at + (viewFirst v - 1)) (suc (viewLast v) - viewFirst v) b x) (length-part (v .bases .at + (viewFirst v - 1)) (suc (viewLast v) - viewFirst v) b x)
+  pub insert-size : length (insertIn view (bytesIn b (view .bases))) ≡ viewStretch view .size
+  insert-size = rw (insert-viewed, first-viewed, last-viewed) (length-insert valid (read .bases) refl)
 
-  -- and its bytes are the insert
-  pub stretch-viewed : bytesIn b (insertStretch (viewAt (length characters) b p)) ≡ insertIn b (viewAt (length characters) b p)
-  unfolding insertStretch insertIn
-  stretch-viewed =
-      let v = viewAt (length characters) b p in
-      let l = limits in
-      let f = bases-fit in
-      within (v .bases .at) (v .bases .size) (viewFirst v - 1) (suc (viewLast v) - viewFirst v) b f (omega arith)
+  -- of a stretch of the file with an entry for each base it is a part of the file
+  pub insert-part : (x : Stretch) → x .size ≡ view .bases .size → x .at + x .size ≤ length b
+      → insertIn view (bytesIn b x) ≡ part (x .at + viewStretch view .at) (viewStretch view .size) b
+  unfolding insertIn
+  insert-part x n h =
+      let s : viewStretch view .at + viewStretch view .size ≤ x .size = rw n (stretch-viewed .1) in
+      let l : length (part (x .at) (x .size) b) ≡ x .size = length-part (x .at) (x .size) b h in
+      rw (whole-in (x .at) (x .size) b h) (whole-in _ _ (part (x .at) (x .size) b) (rw l s) ∙ part-in _ _ (x .at) (x .size) b s h)
 
-pub length-insert : (r : Read) → length (insertOf r) ≤ length (r .bases)
+pub insert-most : (r : Read) (xs : List ℕ) → length (insertOf r xs) ≤ length xs
 unfolding insertOf
-length-insert r = simp (length-take, length-drop) (omega arith)
+insert-most r xs = simp (length-take, length-drop) (omega arith)

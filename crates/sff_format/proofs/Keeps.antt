@@ -1,15 +1,18 @@
--- Lists of reads that keep the rules, a file with no index, and a file that still keeps the rules with another read in the place of one, or with one left out. Assumes nothing.
-use Prim.Native.Nat.{ℕ, zero, suc, _≤_, _<_}
-use mathlib.Core.Path.{_≡_, refl, sym, ap, _∙_}
-use mathlib.Core.Bool.{true, false}
-use mathlib.Core.Logic.{_⊎_, ⊎-elim}
-use mathlib.Core.List.{List, [], _∷_, _++_}
+-- Lists of reads that keep the rules, a file with no index, and a file that still keeps the rules without any set of its reads, or with another read in the place of one. Assumes nothing.
+use Prim.Native.Nat.{ℕ, zero, suc, _+_, _≤_, _<_}
+use mathlib.Core.Path.{_≡_, refl, sym, ap, subst, _∙_}
+use mathlib.Core.Bool.{true, false, false≢true}
+use mathlib.Core.Logic.{_⊎_, inl, inr}
+use mathlib.Core.List.{List, [], _∷_, _++_, Sublistᴰ, Sublistᴰ·slnil, Sublistᴰ·cons, Sublistᴰ·cons-cons, Sublistᴰ·refl}
 use native.Mathlib.Omega.{arith}
-use lib.ListN.{length, take, drop, getD, length-append, length-take, length-drop}
+use lib.ListN.{length, take, getD, length-append, length-take, length-drop}
+use Rattle.octets.specs.Parts.{up8}
+use Rattle.octets.specs.Scans.{Every, isFlowCharacter}
 use Rattle.sff_format.specs.Model.{Read, Index, File, noIndex, layoutRead, layoutReads, withReads}
-use Rattle.sff_format.specs.Rules.{declared}
+use Rattle.sff_format.specs.Rules.{declared, badIndex}
 use Rattle.sff_format.specs.Valid.{ValidRead, ValidReads, Boundary, Valid}
 use Rattle.sff_format.specs.Places.{noRead, readAt, replaced}
+use Rattle.sff_format.specs.Writing.{newFile}
 use Rattle.sff_format.proofs.Boundaries.{undeclared}
 use Rattle.sff_format.proofs.Appended.{header-same}
 
@@ -17,10 +20,6 @@ module _ (characters : List ℕ) where
   pub valid-append : (us ws : List Read) → ValidReads characters us → ValidReads characters ws → ValidReads characters (us ++ ws)
   valid-append [] ws g h = h
   valid-append (u ∷ us) ws g h = (g .0, valid-append us ws (g .1) h)
-
-  pub valid-left : (us ws : List Read) → ValidReads characters (us ++ ws) → ValidReads characters us
-  valid-left [] ws g = tt
-  valid-left (u ∷ us) ws g = (g .0, valid-left us ws (g .1))
 
   pub valid-next : (us : List Read) (r : Read) (ws : List Read) → ValidReads characters (us ++ (r ∷ ws)) → ValidRead characters r
   valid-next [] r ws g = g .0
@@ -32,19 +31,28 @@ module _ (characters : List ℕ) where
   valid-at (r ∷ rs) zero h g = g .0
   valid-at (r ∷ rs) (suc i) h g = valid-at rs i (omega arith) (g .1)
 
-  valid-take : (i : ℕ) (rs : List Read) → ValidReads characters rs → ValidReads characters (take i rs)
-  valid-take zero rs g = tt
-  valid-take (suc i) [] g = tt
-  valid-take (suc i) (r ∷ rs) g = (g .0, valid-take i rs (g .1))
+  -- any set of them left out, and another in the place of one
+  some-valid : {us rs : List Read} → Sublistᴰ us rs → ValidReads characters rs → ValidReads characters us
+  some-valid Sublistᴰ·slnil g = tt
+  some-valid (Sublistᴰ·cons s) g = some-valid s (g .1)
+  some-valid (Sublistᴰ·cons-cons e s) g = (rw e (g .0), some-valid s (g .1))
 
-  valid-drop : (i : ℕ) (rs : List Read) → ValidReads characters rs → ValidReads characters (drop i rs)
-  valid-drop zero rs g = g
-  valid-drop (suc i) [] g = tt
-  valid-drop (suc i) (r ∷ rs) g = valid-drop i rs (g .1)
+  valid-replaced : (i : ℕ) (r : Read) (rs : List Read) → ValidReads characters rs → ValidRead characters r → ValidReads characters (replaced i (r ∷ []) rs)
+  valid-replaced zero r [] g w = (w, tt)
+  valid-replaced zero r (x ∷ rs) g w = (w, g .1)
+  valid-replaced (suc i) r [] g w = (w, tt)
+  valid-replaced (suc i) r (x ∷ rs) g w = (g .0, valid-replaced i r rs (g .1) w)
 
-  valid-replaced : (i : ℕ) (ws rs : List Read) → ValidReads characters rs → ValidReads characters ws → ValidReads characters (replaced i ws rs)
-  valid-replaced i ws rs g h =
-      valid-append (take i rs ++ ws) (drop (suc i) rs) (valid-append (take i rs) ws (valid-take i rs g) h) (valid-drop (suc i) rs g)
+some-fewer : {us rs : List Read} → Sublistᴰ us rs → length us ≤ length rs
+some-fewer Sublistᴰ·slnil = omega arith
+some-fewer (Sublistᴰ·cons s) = let n = some-fewer s in omega arith
+some-fewer (Sublistᴰ·cons-cons e s) = let n = some-fewer s in omega arith
+
+all-but : (i : ℕ) (rs : List Read) → Sublistᴰ (replaced i [] rs) rs
+all-but zero [] = Sublistᴰ·slnil
+all-but zero (r ∷ rs) = Sublistᴰ·cons (Sublistᴰ·refl rs)
+all-but (suc i) [] = Sublistᴰ·slnil
+all-but (suc i) (r ∷ rs) = Sublistᴰ·cons-cons refl (all-but i rs)
 
 -- a read of the same size moves no boundary
 front-replaced : (k i : ℕ) (rs : List Read) (r : Read) → i < length rs → length (layoutRead r) ≡ length (layoutRead (getD rs i noRead))
@@ -70,38 +78,57 @@ no-index f d =
     let n : f .index .bytes ≡ [] = nothing (f .index .bytes) (u .1) in
     λ j. record { offset = u .0 j; bytes = n j }
 
-not-declared : {A : Type 0} (f : File) → f .index ≡ noIndex → declared (f .index .offset) (length (f .index .bytes)) ≡ true → A
-not-declared f e d =
-    let t : false ≡ true = sym (none-declared f e) ∙ d in
-    absurd (let z : _≡_ {A = ℕ} 0 1 = cc in let a : ⊥ = omega arith in a)
+-- a file with no index keeps the rules where its characters, their number, the count and the reads do
+abbrev pub plain : List ℕ → List ℕ → List Read → File
+plain characters key rs = withReads rs (newFile characters key)
 
--- other reads, as many or fewer, that keep the rules and the index's boundary
-with-valid : (f : File) (rs : List Read) → Valid f → ValidReads (f .flow-characters) rs → length rs ≤ length (f .reads)
-    → (declared (f .index .offset) (length (f .index .bytes)) ≡ true → Boundary (withReads rs f) (f .index .offset))
-    → Valid (withReads rs f)
-with-valid f rs v w l m = record {
-  characters-good = v .characters-good;
-  header-fits = v .header-fits;
-  count-fits = let c = v .count-fits in omega arith;
-  index-fits = v .index-fits;
-  index-good = v .index-good;
-  index-met = m;
-  reads-good = w;
+pub is-plain : (f : File) → f .index ≡ noIndex → plain (f .flow-characters) (f .key) (f .reads) ≡ f
+is-plain f e = λ j. record { flow-characters = f .flow-characters; key = f .key; index = sym e j; reads = f .reads }
+
+pub plain-valid : (characters key : List ℕ) (rs : List Read) → Every isFlowCharacter (characters ++ key) → up8 (31 + length characters + length key) < 65536
+    → length rs < 4294967296 → ValidReads characters rs → Valid (plain characters key rs)
+unfolding badIndex declared
+plain-valid characters key rs c h n g = record {
+  characters-good = c;
+  header-fits = h;
+  count-fits = n;
+  index-fits = (omega arith, omega arith, tt);
+  index-good = refl;
+  index-met = λ e. absurd (false≢true e);
+  reads-good = g;
 }
 
-module _ (f : File) (i : ℕ) (h : i < length (f .reads)) (v : Valid f) where
-  pub valid-changed : (r : Read) → ValidRead (f .flow-characters) r → (length (layoutRead r) ≡ length (layoutRead (readAt f i))) ⊎ (f .index ≡ noIndex)
-      → Valid (withReads (replaced i (r ∷ []) (f .reads)) f)
-  valid-changed r w s =
-      let rs : List Read = replaced i (r ∷ []) (f .reads) in
-      let n : length rs ≡ length (f .reads) = simp (length-append, length-take, length-drop) (omega arith) in
-      with-valid f rs v (valid-replaced (f .flow-characters) i (r ∷ []) (f .reads) (v .reads-good) (w, tt)) (omega arith)
-      (
-      λ d.
-      ⊎-elim (λ e. (v .index-met d .0, rw (header-same f rs n, front-replaced (v .index-met d .0) i (f .reads) r h e) (v .index-met d .1))) (λ e. not-declared f e d) s
-      )
+-- a file without its index, and without any set of its reads
+pub valid-some : (f : File) {us : List Read} → Valid f → Sublistᴰ us (f .reads) → Valid (plain (f .flow-characters) (f .key) us)
+valid-some f {us} v s =
+    let n = some-fewer s in
+    let c = v .count-fits in
+    plain-valid (f .flow-characters) (f .key) us (v .characters-good) (v .header-fits) (omega arith) (some-valid (f .flow-characters) s (v .reads-good))
 
+module _ (f : File) (i : ℕ) (h : i < length (f .reads)) (v : Valid f) where
   pub valid-gone : f .index ≡ noIndex → Valid (withReads (replaced i [] (f .reads)) f)
-  valid-gone e =
-      with-valid f (replaced i [] (f .reads)) v (valid-replaced (f .flow-characters) i [] (f .reads) (v .reads-good) tt)
-      (simp (length-append, length-take, length-drop) (omega arith)) (λ d. not-declared f e d)
+  valid-gone e = subst Valid (is-plain (withReads (replaced i [] (f .reads)) f) e) (valid-some f v (all-but i (f .reads)))
+
+  -- another read in the place of one, of the same size, or of any where there is no index
+  module _ (r : Read) (w : ValidRead (f .flow-characters) r) where
+    abbrev rs : List Read
+    rs = replaced i (r ∷ []) (f .reads)
+
+    as-many : length rs ≡ length (f .reads)
+    as-many = simp (length-append, length-take, length-drop) (omega arith)
+
+    met : (length (layoutRead r) ≡ length (layoutRead (readAt f i))) ⊎ (f .index ≡ noIndex)
+        → declared (f .index .offset) (length (f .index .bytes)) ≡ true → Boundary (withReads rs f) (f .index .offset)
+    met (inl e) d = (v .index-met d .0, rw (header-same f rs as-many, front-replaced (v .index-met d .0) i (f .reads) r h e) (v .index-met d .1))
+    met (inr e) d = absurd (false≢true (sym (none-declared f e) ∙ d))
+
+    pub valid-changed : (length (layoutRead r) ≡ length (layoutRead (readAt f i))) ⊎ (f .index ≡ noIndex) → Valid (withReads rs f)
+    valid-changed s = record {
+      characters-good = v .characters-good;
+      header-fits = v .header-fits;
+      count-fits = rw as-many (v .count-fits);
+      index-fits = v .index-fits;
+      index-good = v .index-good;
+      index-met = met s;
+      reads-good = valid-replaced (f .flow-characters) i r (f .reads) (v .reads-good) w;
+    }

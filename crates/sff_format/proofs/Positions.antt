@@ -6,6 +6,7 @@ use mathlib.Core.List.{List, []}
 use native.Mathlib.Omega.{arith}
 use lib.ListN.{length}
 use borrow.Author.Tests.{ltb-true, lt-ltb, le-ltb, eqb-false, eq-eqb, ne-eqb, not-false}
+use Rattle.octets.specs.Parts.{part}
 use Rattle.octets.specs.Numbers.{Bytes, wordsAt}
 use Rattle.octets.proofs.Stands.{number-small}
 use Rattle.answers.specs.declared.Answer.{Answer}
@@ -18,14 +19,15 @@ use Rattle.sff_format.specs.Parse.{parseRead, parse}
 use Rattle.sff_format.specs.Places.{readAt, placeFrom, readPlace}
 use Rattle.sff_format.specs.Insert.{insertFirst, insertLast, insertOf}
 use Rattle.sff_format.specs.View.{viewAt, viewFirst, viewLast, bytesIn, insertIn}
-use Rattle.sff_format.specs.Position.{positionTest, signalTest, viewOf, insertStretch, fileInsert, fileFirst, fileLast}
+use Rattle.sff_format.specs.Position.{positionTest, signalTest, viewOf, fileInsert, fileFirst, fileLast}
 use Rattle.answers.proofs.Answers.{first-ok, second-ok, when-ok}
 use Rattle.sff_format.proofs.HeaderLaws.{fits-31, characters-length}
 use Rattle.sff_format.proofs.ReadLaid.{data-fits}
 use Rattle.sff_format.proofs.Boundaries.{accepted-read}
 use Rattle.sff_format.proofs.FileLaid.{head-ok, sections-ok}
 use Rattle.sff_format.proofs.Places.{read-found}
-use Rattle.sff_format.proofs.Inserted.{first-viewed, last-viewed, insert-viewed, stretch-within, stretch-length, stretch-viewed}
+use Rattle.sff_format.proofs.Views.{data-inside}
+use Rattle.sff_format.proofs.Inserted.{first-viewed, last-viewed, insert-viewed, stretch-viewed, insert-size, insert-part}
 
 -- the read that a walk from an accepted boundary finds is accepted
 pub place-accepted : (b : List ℕ) (n i p : ℕ) (q : Bool) → boundaryTest b n p q ≡ Accepted → i < n → readTest (flowCharacters b) b (placeFrom b i p q) ≡ Accepted
@@ -83,9 +85,9 @@ module _ (b : List ℕ) (i : ℕ) (e : positionTest b i ≡ Accepted) where
   unfolding fileLast acceptedOr
   last-view = rw e
 
-  stretch-view : bytesIn b (insertStretch (viewOf b i)) ≡ fileInsert b i
+  pub insert-view : insertIn (viewOf b i) (bytesIn b (viewOf b i .bases)) ≡ fileInsert b i
   unfolding fileInsert acceptedOr
-  stretch-view = rw e
+  insert-view = rw e
 
   count : length (flowCharacters b) ≡ flows b
   count = characters-length b (head-ok b position-file)
@@ -110,11 +112,8 @@ module _ (b : List ℕ) (i : ℕ) (e : positionTest b i ≡ Accepted) where
     unfolding viewAt parseRead
     values-chosen = rw read-is
 
-    pub insert-view : insertIn b (viewOf b i) ≡ fileInsert b i
-    insert-view = sym (rw count at (stretch-viewed (flowCharacters b) b (readPlace b i) y there)) ∙ stretch-view
-
     -- what is handed over of an accepted file is the insert of its read
-    pub insert-chosen : fileInsert b i ≡ insertOf (readAt (parse b) i)
+    pub insert-chosen : fileInsert b i ≡ insertOf (readAt (parse b) i) (readAt (parse b) i .bases)
     insert-chosen = sym insert-view ∙ rw read-is (rw count at (insert-viewed (flowCharacters b) b (readPlace b i) y there))
 
     pub first-chosen : fileFirst b i ≡ insertFirst (readAt (parse b) i)
@@ -123,19 +122,22 @@ module _ (b : List ℕ) (i : ℕ) (e : positionTest b i ≡ Accepted) where
     pub last-chosen : fileLast b i ≡ insertLast (readAt (parse b) i)
     last-chosen = sym last-view ∙ rw read-is (rw count at (last-viewed (flowCharacters b) b (readPlace b i) y there))
 
-    -- it is a stretch within the bases of the read
-    pub insert-inside :
-        let v = viewOf b i in
-        (v .bases .at ≤ insertStretch v .at) × (insertStretch v .at + insertStretch v .size ≤ v .bases .at + v .bases .size)
-    insert-inside = rw count at (stretch-within (flowCharacters b) b (readPlace b i) y there)
+    -- it is a part of the file, within the bases of the read
+    pub insert-inside : (fileInsert b i ≡ part (viewOf b i .bases .at + (fileFirst b i - 1)) (suc (fileLast b i) - fileFirst b i) b)
+        × (fileFirst b i - 1 + (suc (fileLast b i) - fileFirst b i) ≤ viewOf b i .bases .size)
+    insert-inside =
+        let d = rw count at (data-inside (flowCharacters b) b (readPlace b i) there) in
+        let s = rw count at (stretch-viewed (flowCharacters b) b (readPlace b i) y there .1) in
+        let t = (rw count at (insert-part (flowCharacters b) b (readPlace b i) y there)) (viewOf b i .bases) refl (d .2) in
+        rw (← first-view, ← last-view) (sym insert-view ∙ t, s)
 
 -- as many bases as from the first to the last, none if it is refused
 pub insert-length : (b : List ℕ) (i : ℕ) → Bytes b → length (fileInsert b i) ≡ suc (fileLast b i) - fileFirst b i
 unfolding fileInsert fileFirst fileLast acceptedOr
 insert-length b i y = go (positionTest b i) refl
   where
-    go : (a : Answer) → positionTest b i ≡ a → length (acceptedOr a (bytesIn b (insertStretch (viewOf b i))) []) ≡ suc (acceptedOr a (viewLast (viewOf b i)) 0) - acceptedOr a (viewFirst (viewOf b i)) 1
-    go Accepted e = rw (count b i e) at (stretch-length (flowCharacters b) b (readPlace b i) y (there b i e))
+    go : (a : Answer) → positionTest b i ≡ a → length (acceptedOr a (insertIn (viewOf b i) (bytesIn b (viewOf b i .bases))) []) ≡ suc (acceptedOr a (viewLast (viewOf b i)) 0) - acceptedOr a (viewFirst (viewOf b i)) 1
+    go Accepted e = rw (count b i e) at (insert-size (flowCharacters b) b (readPlace b i) y (there b i e))
     go (Refused n p) e = refl
 
 -- what the code asks for a signal summary, and what it answers

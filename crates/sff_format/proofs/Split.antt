@@ -18,7 +18,7 @@ use Rattle.sff_format.specs.Rules.{declared}
 use Rattle.sff_format.specs.Valid.{Valid}
 use Rattle.sff_format.specs.Places.{noRead, readAt, replaced, place}
 use Rattle.sff_format.proofs.Sizes.{layout-none}
-use Rattle.sff_format.proofs.Appended.{reads-append, header-same, header-count, layout-plain}
+use Rattle.sff_format.proofs.Appended.{reads-append, header-same, with-laid}
 use Rattle.sff_format.proofs.Boundaries.{undeclared}
 use Rattle.sff_format.proofs.FileTaken.{front-le, read-some}
 
@@ -94,9 +94,7 @@ module _ (f : File) (i : ℕ) (h : i < length (f .reads)) where
 
   gone-layout : f .index ≡ noIndex → layout (withReads (replaced i [] (f .reads)) f)
       ≡ putAt 20 (bytesOf 4 (length (replaced i [] (f .reads)))) (insertAt off index-bytes ahead ++ after)
-  gone-layout e =
-      layout-plain (withReads (replaced i [] (f .reads)) f) e ∙ header-count f (replaced i [] (f .reads)) _
-      ∙ rw (gone-laid, no-offset e, no-bytes e, insert-zero)
+  gone-layout e = with-laid f (replaced i [] (f .reads)) e ∙ rw (gone-laid, no-offset e, no-bytes e, insert-zero)
 
   place-is : place f i ≡ length ahead + cond (leb off (length ahead)) (length index-bytes) 0
   unfolding place off index-bytes ahead

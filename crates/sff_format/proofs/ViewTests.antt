@@ -18,11 +18,11 @@ use Rattle.sff_format.specs.declared.Stretch.{Stretch}
 use Rattle.sff_format.specs.declared.ReadView.{ReadView}
 use Rattle.sff_format.specs.HeaderTest.{flows, flowCharacters}
 use Rattle.sff_format.specs.ReadTest.{readTest}
-use Rattle.sff_format.specs.View.{viewAt, bytesIn, viewFirst, viewLast, insertIn, insertOutside, viewTest}
+use Rattle.sff_format.specs.View.{viewAt, bytesIn, viewFirst, viewLast, viewStretch, insertIn, insertOutside, viewTest}
 use Rattle.sff_format.specs.Step.{State, Step, found, stop, boundary, stepTest, step}
 use Rattle.sff_format.proofs.HeaderLaws.{characters-length}
-use Rattle.sff_format.proofs.ReadLaid.{section-is, section-fits, data-fits}
-use Rattle.sff_format.proofs.Inserted.{first-least, limits}
+use Rattle.sff_format.proofs.Views.{name-inside, data-inside}
+use Rattle.sff_format.proofs.Inserted.{first-least, stretch-viewed}
 use Rattle.sff_format.proofs.Steps.{step-found, step-stop, header-accepted, read-accepted}
 
 -- a stretch is handed out whole: the file's bytes from its place on, as many as it says
@@ -71,7 +71,7 @@ module _ (b : List ℕ) (v : ReadView) (e : viewTest b v ≡ Accepted) where
   qualities-whole = whole b (v .qualities) (under-ok _ _ _ _ (first-ok _ _ (second-ok _ _ (second-ok _ _ (second-ok _ _ (second-ok _ _ e))))))
 
   -- all bases from the first to the last of the insert, none where the last comes before the first
-  pub insert-whole : length (insertIn b v) ≡ suc (viewLast v) - viewFirst v
+  pub insert-whole : length (insertIn v (bytesIn b (v .bases))) ≡ viewStretch v .size
   unfolding viewTest insertIn
   insert-whole =
       let t : insertOutside v ≡ false = when-ok _ _ _ (second-ok _ _ (second-ok _ _ (second-ok _ _ (second-ok _ _ (second-ok _ _ e))))) in
@@ -79,27 +79,18 @@ module _ (b : List ℕ) (v : ReadView) (e : viewTest b v ≡ Accepted) where
 
 -- the view of a read that is accepted
 module _ (characters b : List ℕ) (p : ℕ) (y : Bytes b) (e : readTest characters b p ≡ Accepted) where
-  name-inside : let v = viewAt (length characters) b p in v .name .at + v .name .size ≤ length b
-  unfolding viewAt
-  name-inside = let s = section-is characters b p e in let f = section-fits characters b p e in omega arith
-
-  data-inside :
-      let v = viewAt (length characters) b p in
-      (v .values .at + v .values .size ≤ length b) × (v .increments .at + v .increments .size ≤ length b)
-      × (v .bases .at + v .bases .size ≤ length b) × (v .qualities .at + v .qualities .size ≤ length b)
-  unfolding viewAt
-  data-inside = let f = data-fits characters b p e in (omega arith, omega arith, omega arith, omega arith)
-
   insert-inside : insertOutside (viewAt (length characters) b p) ≡ false
   insert-inside =
       let v = viewAt (length characters) b p in
-      rw (le-ltb (v .bases .size) (viewLast v) (limits characters b p y e .2)) (and-false (leb (viewFirst v) (viewLast v)))
+      let s = stretch-viewed characters b p y e .1 in
+      let o = first-least (v .«quality_left») (v .«adapter_left») in
+      rw (le-ltb (v .bases .size) (viewLast v) (omega arith)) (and-false (leb (viewFirst v) (viewLast v)))
 
   read-view-accepted : viewTest b (viewAt (length characters) b p) ≡ Accepted
   unfolding viewTest
   read-view-accepted =
-      let d = data-inside in
-      both-ok _ _ (ok-under _ _ _ _ name-inside)
+      let d = data-inside characters b p e in
+      both-ok _ _ (ok-under _ _ _ _ (name-inside characters b p e))
       (
       both-ok _ _ (ok-under _ _ _ _ (d .0))
       (

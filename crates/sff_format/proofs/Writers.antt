@@ -3,7 +3,7 @@ use Prim.Native.Nat.{ℕ, _+_, _≤_, _<_}
 use mathlib.Core.Path.{_≡_, refl, sym, ap, _∙_}
 use mathlib.Core.Bool.{false, _||_}
 use mathlib.Core.Logic.{_↔_}
-use mathlib.Core.List.{List, [], _∷_, _++_, append-assoc, append-nil}
+use mathlib.Core.List.{List, [], _∷_, _++_, append-assoc, append-nil, Sublistᴰ·append, Sublistᴰ·refl, Sublistᴰ·nil-sublist}
 use native.Mathlib.Omega.{arith}
 use lib.ListN.{length, take, length-append}
 use Rattle.octets.specs.Parts.{putAt, up8}
@@ -25,8 +25,8 @@ use Rattle.sff_format.proofs.HeaderLaws.{offset-is, index-length-is, co
 use Rattle.sff_format.proofs.FileTaken.{header-first, file-taken, file-back}
 use Rattle.sff_format.proofs.Appended.{reads-append, layout-plain}
 use Rattle.sff_format.proofs.Written.{layout-bytes}
-use Rattle.sff_format.proofs.Keeps.{valid-left, valid-next}
-use Rattle.sff_format.proofs.Appends.{plain, plain-valid, length-more, appended-in, carried, carried-out, append-done, append-left, append-valid, is-plain}
+use Rattle.sff_format.proofs.Keeps.{valid-next, plain, is-plain, plain-valid, valid-some}
+use Rattle.sff_format.proofs.Appends.{length-more, appended-in, carried, carried-out, append-done, append-left, append-valid}
 use Rattle.sff_format.proofs.Given.{valid-given}
 
 -- what is left where a file has been written at the front of a buffer
@@ -34,10 +34,7 @@ abbrev written : List ℕ → File → Left
 written buffer f = record { outcome = record { answer = Accepted; length = length (layout f) }; buffer = putAt 0 (layout f) buffer }
 
 valid-front : (characters key : List ℕ) (us ws : List Read) → Valid (plain characters key (us ++ ws)) → Valid (plain characters key us)
-valid-front characters key us ws v =
-    let l : length (us ++ ws) ≡ length us + length ws = length-append us ws in
-    let n = v .count-fits in
-    plain-valid characters key us (v .characters-good) (v .header-fits) (omega (arith, l, n)) (valid-left characters us ws (v .reads-good))
+valid-front characters key us ws v = valid-some (plain characters key (us ++ ws)) v (rw append-nil at (Sublistᴰ·append (Sublistᴰ·refl us) (Sublistᴰ·nil-sublist ws)))
 
 module _ (characters key buffer : List ℕ) (us : List Read) (r : Read) (v : Valid (plain characters key (us ++ (r ∷ []))))
     (fits : length (layout (plain characters key (us ++ (r ∷ [])))) ≤ length buffer) where

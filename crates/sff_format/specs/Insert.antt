@@ -1,10 +1,11 @@
--- "Insert" of document 01: its first and last base, and its bases. Assumes nothing: these are definitions.
+-- "Insert" of document 01: its first and last base, and the stretch between them. Assumes nothing: these are definitions.
 use Prim.Native.Nat.{ℕ, suc, _-_, max, min}
 use mathlib.Core.Bool.{cond}
 use mathlib.Core.List.{List}
 use lib.ListN.{length}
 use lib.Dec.{eqb}
 use Rattle.octets.specs.Parts.{part}
+use Rattle.sff_format.specs.declared.Stretch.{Stretch}
 use Rattle.sff_format.specs.Model.{Read}
 
 -- "First = max(1, both lefts)"
@@ -25,6 +26,13 @@ insertFirst r = firstBase (r .quality-left) (r .adapter-left)
 abbrev pub insertLast : Read → ℕ
 insertLast r = lastBase (length (r .bases)) (r .quality-right) (r .adapter-right)
 
--- the bases from first to last, both from 1: none "If first > last"
-unfoldable pub insertOf : Read → List ℕ
-insertOf r = part (insertFirst r - 1) (suc (insertLast r) - insertFirst r) (r .bases)
+-- from first to last, both from 1, of whatever a read has one of for each base: none "If first > last"
+abbrev pub between : ℕ → ℕ → Stretch
+between first last = record { at = first - 1; size = suc last - first }
+
+abbrev pub insertStretch : Read → Stretch
+insertStretch r = between (insertFirst r) (insertLast r)
+
+-- the insert of such a list: of the bases, or of the qualities
+unfoldable pub insertOf : Read → List ℕ → List ℕ
+insertOf r xs = part (insertStretch r .at) (insertStretch r .size) xs

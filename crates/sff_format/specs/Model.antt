@@ -76,6 +76,9 @@ layoutIndex x = filled (indexSize (length (x .bytes))) (x .bytes)
 unfoldable pub layout : File → List ℕ
 layout f = insertAt (f .index .offset) (layoutIndex (f .index)) (layoutHeader f ++ layoutReads (f .reads))
 
--- the same file with other reads
+-- the same file with other reads, and with another index
 abbrev pub withReads : List Read → File → File
 withReads rs f = record { flow-characters = f .flow-characters; key = f .key; index = f .index; reads = rs }
+
+abbrev pub withIndex : Index → File → File
+withIndex x f = record { flow-characters = f .flow-characters; key = f .key; index = x; reads = f .reads }

@@ -1,16 +1,15 @@
 -- A read that is chosen by its position from 0: the test of the position, and its insert. Assumes nothing: these are definitions.
-use Prim.Native.Nat.{ℕ, suc, _+_, _-_}
+use Prim.Native.Nat.{ℕ}
 use mathlib.Core.Bool.{not}
 use mathlib.Core.List.{List, []}
 use lib.Dec.{ltb, eqb}
 use Rattle.answers.specs.declared.Answer.{Answer}
-use Rattle.sff_format.specs.declared.Stretch.{Stretch}
 use Rattle.sff_format.specs.declared.ReadView.{ReadView}
 use Rattle.answers.specs.Answer.{when, acceptedOr, _then_}
 use Rattle.sff_format.specs.HeaderTest.{readCount, flows}
 use Rattle.sff_format.specs.FileTest.{fileTest}
 use Rattle.sff_format.specs.Places.{readPlace}
-use Rattle.sff_format.specs.View.{viewAt, bytesIn, viewFirst, viewLast}
+use Rattle.sff_format.specs.View.{viewAt, bytesIn, viewFirst, viewLast, insertIn}
 
 -- "Refusals: the file's, 21": "position not below the number of reads"
 unfoldable pub positionTest : List ℕ → ℕ → Answer
@@ -24,13 +23,9 @@ signalTest b i = positionTest b i then when (eqb (flows b) 0) 32 0
 abbrev pub viewOf : List ℕ → ℕ → ReadView
 viewOf b i = viewAt (flows b) b (readPlace b i)
 
--- where the insert of a read lies
-unfoldable pub insertStretch : ReadView → Stretch
-insertStretch v = record { at = v .bases .at + (viewFirst v - 1); size = suc (viewLast v) - viewFirst v }
-
 -- "the insert's bases are handed over as a stretch of the caller's own file"; refused, "the stretch is then empty"
 unfoldable pub fileInsert : List ℕ → ℕ → List ℕ
-fileInsert b i = acceptedOr (positionTest b i) (bytesIn b (insertStretch (viewOf b i))) []
+fileInsert b i = acceptedOr (positionTest b i) (insertIn (viewOf b i) (bytesIn b (viewOf b i .bases))) []
 
 -- its first and last base; refused, those of a read without bases, whose insert is empty
 unfoldable pub fileFirst : List ℕ → ℕ → ℕ

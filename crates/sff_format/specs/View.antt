@@ -1,5 +1,5 @@
 -- What is said of a read in numbers: its place, where its contents lie, and its clips. Assumes nothing: these are definitions.
-use Prim.Native.Nat.{ℕ, suc, _+_, _-_, _*_, _/_}
+use Prim.Native.Nat.{ℕ, _+_, _*_, _/_}
 use mathlib.Core.Bool.{Bool, _&&_}
 use mathlib.Core.List.{List}
 use lib.ListN.{length}
@@ -12,7 +12,7 @@ use Rattle.sff_format.specs.declared.Stretch.{Stretch}
 use Rattle.sff_format.specs.declared.ReadView.{ReadView}
 use Rattle.sff_format.specs.Model.{Read}
 use Rattle.sff_format.specs.ReadTest.{sectionLength, nameLength, baseCount, qualityLeft, qualityRight, adapterLeft, adapterRight}
-use Rattle.sff_format.specs.Insert.{firstBase, lastBase}
+use Rattle.sff_format.specs.Insert.{firstBase, lastBase, between}
 
 -- the read at place p, of F flow values
 unfoldable pub viewAt : ℕ → List ℕ → ℕ → ReadView
@@ -50,15 +50,18 @@ viewRead b v = record {
   qualities = bytesIn b (v .qualities);
 }
 
--- the first and the last base of its insert, and the insert's bases
+-- the first and the last base of its insert, and the insert of a list with one entry for each base: none of it where it does not lie in the list whole
 abbrev pub viewFirst : ReadView → ℕ
 viewFirst v = firstBase (v .«quality_left») (v .«adapter_left»)
 
 abbrev pub viewLast : ReadView → ℕ
 viewLast v = lastBase (v .bases .size) (v .«quality_right») (v .«adapter_right»)
 
-unfoldable pub insertIn : List ℕ → ReadView → List ℕ
-insertIn b v = wholePart (viewFirst v - 1) (suc (viewLast v) - viewFirst v) (bytesIn b (v .bases))
+abbrev pub viewStretch : ReadView → Stretch
+viewStretch v = between (viewFirst v) (viewLast v)
+
+unfoldable pub insertIn : ReadView → List ℕ → List ℕ
+insertIn v xs = bytesIn xs (viewStretch v)
 
 -- a stretch that does not lie in the file whole
 abbrev pub outside : List ℕ → Stretch → Bool

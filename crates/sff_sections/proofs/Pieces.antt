@@ -1,7 +1,7 @@
 -- Fields, lists and padding that are put one after another are one section put: s is what a buffer was, s₁ what it is after the first. Assumes nothing.
 use Prim.Native.Nat.{ℕ, _+_, _-_, _*_, _≤_}
 use mathlib.Core.Path.{_≡_, refl, sym, ap, _∙_}
-use mathlib.Core.List.{List, [], _∷_, _++_, append-assoc}
+use mathlib.Core.List.{List, [], _∷_, _++_}
 use native.Mathlib.Nat.{add-zero, add-assoc}
 use native.Mathlib.Omega.{arith}
 use lib.ListN.{length, replicate, set, length-append}
@@ -10,7 +10,7 @@ use Rattle.octets.specs.Parts.{part, putAt, up8, filled, padded}
 use Rattle.octets.specs.Numbers.{bytesOf, fields, words}
 use Rattle.octets.proofs.Lists.{put-nil, put-next, put-sets, length-put}
 use Rattle.octets.proofs.Digits.{length-bytesOf}
-use Rattle.octets.proofs.Stands.{width, length-fields, length-units}
+use Rattle.octets.proofs.Stands.{width, length-fields, fields-append, length-units}
 use Rattle.sff_format.specs.declared.Clips.{Clips}
 use Rattle.sff_sections.specs.Sections.{clipFields, sectionFields, headerSection, dataSection, startFields, lengthFields}
 
@@ -26,11 +26,6 @@ zeros-put at used n s e₁ e₂ = let e : at + up8 used - (at + used) ≡ up8 us
 pub padding-put : (at n : ℕ) (xs s : List ℕ) → length xs ≡ n → at + n ≤ length s → putAt (at + n) (replicate (up8 n - n) 0) (putAt at xs s) ≡ putAt at (padded xs) s
 unfolding filled
 padding-put at n xs s e h = rw e (put-next at n xs (replicate (up8 n - n) 0) s e h)
-
-fields-append : (xs ys : List (ℕ × ℕ)) → fields (xs ++ ys) ≡ fields xs ++ fields ys
-unfolding fields
-fields-append [] ys = refl
-fields-append (x ∷ xs) ys = rw (fields-append xs ys, append-assoc)
 
 -- fields one after another, each at its distance from `at`
 unfoldable putEach : ℕ → ℕ → List (ℕ × ℕ) → List ℕ → List ℕ

@@ -6,6 +6,7 @@ ghost use Rattle.sff_format.specs.View.{bytesIn, insertIn, outside, insertOutsi
 use answers::Answer;
 use octets::stretch;
 use sff_clips::first_base;
+use sff_clips::inner::insert_stretch;
 use sff_clips::last_base;
 use sff_format::ReadView;
 use sff_format::Stretch;
@@ -49,15 +50,9 @@ pub fn qualities(view: ReadView, s: &[u8]) -> &[u8]
 
 // The bases of the insert, which may be none.
 pub fn insert(view: ReadView, s: &[u8]) -> &[u8]
-    ensures { λ r. ⌜ now r ≡ insertIn (now (s .entry)) view ⌝ }
+    ensures { λ r. ⌜ now r ≡ insertIn view (bytesIn (now (s .entry)) (view .bases)) ⌝ }
 {
-    let first = first_base(view);
-    let last = last_base(view);
-    if first.0 > last.0 {
-        return &s[..0];
-    }
-    let before = first.0 - 1;
-    stretch(bases(view, s), before, last.0 - before)
+    bytes_in(bases(view, s), insert_stretch(view))
 }
 
 // 1 at the start of a stretch that does not lie in the file whole. Its end is never added up: the sum could wrap.

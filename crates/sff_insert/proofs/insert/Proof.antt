@@ -1,7 +1,6 @@
 use mathlib.Core.Path.{sym, _∙_}
 use native.Mathlib.Omega.{arith}
 use borrow.Author.Needs.{needs}
-use Rattle.octets.proofs.AllBytes.{bytes-of}
 use Rattle.sff_format.proofs.Positions.{position-file, position-below, insert-refused, insert-view}
 use Rattle.sff_insert.proofs.insert.Statement.{statement}
 use Rattle.sff_insert.proofs.insert.Tie as tie
@@ -22,6 +21,4 @@ insert-spec =
     (λ c κs. search needs)
     (λ c.
     let e = sym (c .before .before .before .before .position-test .ensures) ∙ c .before .before .enum-told .given .1 in
-    let k = c .before .before .before .before .before in
-    let y = bytes-of (k .before .args .file .now) (λ j. k .shared-slice-known .given j .fits) in
-    c .insert .ensures ∙ rw (c .before .view-of .ensures) (insert-view _ _ e y)))
+    c .insert .ensures ∙ rw (c .before .view-of .ensures) (insert-view _ _ e)))

@@ -32,12 +32,13 @@ use Rattle.sff_format.specs.Writing.{writeEach}
 use Rattle.sff_format.proofs.Format.{accepted, one-file}
 use Rattle.sff_format.proofs.Refusals.{file-zero}
 use Rattle.sff_format.proofs.Rewritten.{written-back, written-again}
-use Rattle.sff_correction.specs.Record.{position}
+use Rattle.sff_correction.specs.Correction.{Correction}
+use Rattle.sff_correction.specs.RecordLayout.{parseRecord}
 use Rattle.sff_correction.specs.Edit.{instead, edited}
 use Rattle.sff_correction.specs.InOrder.{reasonsAgainst}
 use Rattle.sff_correction.specs.Correct.{correctOutcome, correctBuffer}
 use Rattle.sff_correction.specs.ListRun.{recordAt, firstRecords, Run, ran, runList}
-use Rattle.sff_correction.specs.ListModel.{fileAfter, reasonsInTurn, listAfresh}
+use Rattle.sff_correction.specs.ListModel.{correctionAt, fileAfter, reasonsInTurn, listAfresh}
 use Rattle.sff_correction.proofs.Answered.{first-answered, carried-exactly, refused-left, carried-left, carried-valid, carried-kept, corrected-written}
 use Rattle.sff_correction.proofs.ListClaim.{every-list}
 use Rattle.sff_correction.proofs.InTurn.{count-most, none-of-carried, some-of-refused, first-of-refused, all-carried, on-in-turn, stop-in-turn, reasons-in-turn, bytes-in-turn, valid-in-turn, list-file, header-kept}
@@ -183,7 +184,7 @@ each-filter = record {
 -- DEMAND 3
 
 -- One record, on any buffer with any length stated. The reasons in document 01's order are the table `reasonsAgainst`;
--- f is what the file says, and `new` that with the record carried out.
+-- c is what the record says, f what the file says, and `new` that with the correction carried out.
 -- Code: `sff_corrector::correct`, and `service::sffstore_correct` over it.
 -- Shuts out:
 --   a corrector that writes nothing (sff_edit/writes_nothing, sff_correction/writes_nothing)
@@ -193,7 +194,7 @@ each-filter = record {
 --   one that overwrites reads not yet moved (splice/low_end_first)
 --   one that leaves what is freed (splice/freed_bytes_left)
 --   one that still counts a read taken out (sff_edit/count_not_lowered)
-pub record OneRecordOn (buffer : List ℕ) (len : ℕ) (r : List ℕ) (f new : File) : Type 0 where
+pub record OneRecordOn (buffer : List ℕ) (len : ℕ) (r : List ℕ) (c : Correction) (f new : File) : Type 0 where
   -- "Whatever bytes are lent as the file and as a correction record, and whatever file length is stated, the correction
   -- is carried out, with number 0, exactly when none of document 01's reasons to refuse holds."
   pub carried-out : (numberOf (correctOutcome buffer len r .answer) ≡ 0) ↔ NoneHolds (reasonsAgainst buffer len r)
@@ -207,21 +208,21 @@ pub record OneRecordOn (buffer : List ℕ) (len : ℕ) (r : List ℕ) (f new : F
       → (correctOutcome buffer len r .length ≡ length (layout new)) × (correctBuffer buffer len r ≡ settled (layout new) (max len (length (layout new))) buffer)
   -- "from the same header, any index, and the same reads with that one read changed or left out."
   pub same-header : (new .flow-characters ≡ f .flow-characters) × (new .key ≡ f .key) × (new .index ≡ f .index)
-  pub same-reads : new .reads ≡ take (position r) (f .reads) ++ instead r (readAt f (position r)) ++ drop (suc (position r)) (f .reads)
+  pub same-reads : new .reads ≡ take (c .position) (f .reads) ++ instead (c .change) (readAt f (c .position)) ++ drop (suc (c .position)) (f .reads)
   -- "Every other read's sections keep their bytes and their order.": so does all that stands before that read and after
   -- it, but for the count at 20
   pub others-kept : numberOf (correctOutcome buffer len r .answer) ≡ 0
       → take (correctOutcome buffer len r .length) (correctBuffer buffer len r)
       ≡ putAt 20 (bytesOf 4 (length (new .reads)))
       (
-      take (readPlace (take len buffer) (position r)) (take len buffer)
-      ++ (layoutReads (instead r (readAt f (position r))) ++ drop (readPlace (take len buffer) (position r) + length (layoutRead (readAt f (position r)))) (take len buffer))
+      take (readPlace (take len buffer) (c .position)) (take len buffer)
+      ++ (layoutReads (instead (c .change) (readAt f (c .position))) ++ drop (readPlace (take len buffer) (c .position) + length (layoutRead (readAt f (c .position)))) (take len buffer))
       )
   -- and that file keeps the rules
   pub valid : numberOf (correctOutcome buffer len r .answer) ≡ 0 → Valid new
 
 abbrev pub OneRecord : List ℕ → ℕ → List ℕ → Type 0
-OneRecord buffer len r = OneRecordOn buffer len r (parse (take len buffer)) (edited r (parse (take len buffer)))
+OneRecord buffer len r = OneRecordOn buffer len r (parseRecord r) (parse (take len buffer)) (edited (parseRecord r) (parse (take len buffer)))
 
 pub one-record : (buffer : List ℕ) (len : ℕ) (r : List ℕ) → Bytes buffer → Bytes r → OneRecord buffer len r
 unfolding edited
@@ -247,8 +248,8 @@ one-answer = one-first
 --   a corrector and a writer that lay a read out each in its own way (sff_edit/name_length_not_written,
 --   sff_sections/name_for_the_bases)
 pub in-place-is-afresh : (buffer : List ℕ) (len : ℕ) (r : List ℕ) → Bytes buffer → Bytes r → numberOf (correctOutcome buffer len r .answer) ≡ 0 → parse (take len buffer) .index ≡ noIndex
-    → (other : List ℕ) → length (layout (edited r (parse (take len buffer)))) ≤ length other
-    → writeEach other (edited r (parse (take len buffer)))
+    → (other : List ℕ) → length (layout (edited (parseRecord r) (parse (take len buffer)))) ≤ length other
+    → writeEach other (edited (parseRecord r) (parse (take len buffer)))
     ≡ record { outcome = correctOutcome buffer len r; buffer = putAt 0 (take (correctOutcome buffer len r .length) (correctBuffer buffer len r)) other }
 in-place-is-afresh = corrected-written
 
@@ -281,10 +282,10 @@ pub record WholeList (buffer : List ℕ) (len : ℕ) (l : List ℕ) (f : File) (
   pub reasons : (k : ℕ) → k ≤ count → NoneHolds (reasonsAgainst (before k .buffer) (before k .outcome .length) (recordAt k l)) ↔ NoneHolds (reasonsInTurn (length buffer) k l f)
   -- "The file is then what writing afresh gives from its header, any index, and the reads as these records, one after
   -- the other, have left them."
-  pub file : take (runList buffer len l .outcome .length) (runList buffer len l .buffer) ≡ layout (fileAfter count l f)
-  pub same-header : (fileAfter count l f .flow-characters ≡ f .flow-characters) × (fileAfter count l f .key ≡ f .key) × (fileAfter count l f .index ≡ f .index)
+  pub file : take (runList buffer len l .outcome .length) (runList buffer len l .buffer) ≡ layout (fileAfter count (correctionAt l) f)
+  pub same-header : (fileAfter count (correctionAt l) f .flow-characters ≡ f .flow-characters) × (fileAfter count (correctionAt l) f .key ≡ f .key) × (fileAfter count (correctionAt l) f .index ≡ f .index)
   -- and it keeps the rules
-  pub valid : Valid (fileAfter count l f)
+  pub valid : Valid (fileAfter count (correctionAt l) f)
 
 pub record EveryList (buffer : List ℕ) (len : ℕ) (l : List ℕ) : Type 0 where
   -- on any buffer with any length stated, document 01's "single claim over every list, on the whole answer and the
@@ -309,7 +310,7 @@ list-corrected buffer len l y z = record {
     each = λ k i j. one-record _ _ (recordAt k l) (bytes-in-turn buffer len l y z h e w k i) (bytes-part (96 * k) 96 l z);
     reasons = reasons-in-turn buffer len l y z h e w;
     file = list-file buffer len l y z h e w;
-    same-header = header-kept (runList buffer len l .outcome .count) l (parse (take len buffer));
+    same-header = header-kept (runList buffer len l .outcome .count) (correctionAt l) (parse (take len buffer));
     valid = valid-in-turn buffer len l y z h e w (runList buffer len l .outcome .count) (omega arith);
   };
 }

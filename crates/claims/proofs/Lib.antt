@@ -4,6 +4,7 @@ pub mod Demands
 pub mod ScopeFile
 pub mod ScopeReads
 pub mod ScopeWriting
+pub mod ScopeRecords
 pub mod ScopeFilters
 pub mod ScopeLister
 pub mod MarkedCases

@@ -10,7 +10,8 @@ use Rattle.sff_format.specs.declared.Outcome.{Outcome}
 use Rattle.sff_format.specs.Model.{File, noIndex, layout}
 use Rattle.sff_format.specs.FileTest.{fileTest}
 use Rattle.sff_format.specs.Position.{fileInsert, fileFirst, fileLast}
-use Rattle.sff_correction.specs.RecordLayout.{Change, rename, remove, layoutRecord}
+use Rattle.sff_correction.specs.Correction.{Change, rename, remove}
+use Rattle.sff_correction.specs.RecordLayout.{layoutRecord}
 use Rattle.sff_correction.specs.Correct.{correctOutcome, correctBuffer}
 use Rattle.filter_format.specs.Undo.{making, undoLayer}
 use Rattle.filter_format.specs.Encode.{encode}

@@ -20,9 +20,9 @@ pub insert-left : (n : ℕ) (us xs ys : List ℕ) → n ≤ length us → insert
 unfolding insertAt
 insert-left n us xs ys h = rw (take-append-le n us ys h, drop-append-le n us ys h) (simp append-assoc)
 
-pub length-insert : (n : ℕ) (xs l : List ℕ) → n ≤ length l → length (insertAt n xs l) ≡ length l + length xs
+pub length-insert : (n : ℕ) (xs l : List ℕ) → length (insertAt n xs l) ≡ length l + length xs
 unfolding insertAt
-length-insert n xs l h = simp (length-append, length-take, length-drop) (omega arith)
+length-insert n xs l = simp (length-append, length-take, length-drop) (omega arith)
 
 -- what stands at p, and what is left after it
 pub stands-drop : (p : ℕ) (xs b : List ℕ) → Stands p xs b → xs ++ drop (p + length xs) b ≡ drop p b

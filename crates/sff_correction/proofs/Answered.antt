@@ -19,10 +19,12 @@ use Rattle.sff_format.proofs.Writers.{write-each}
 use Rattle.sff_format.specs.Parse.{parse}
 use Rattle.sff_format.specs.Places.{readPlace}
 use Rattle.sff_correction.specs.Record.{position}
+use Rattle.sff_correction.specs.RecordLayout.{changeIn, parseRecord}
 use Rattle.sff_correction.specs.Edit.{instead, target, edited}
 use Rattle.sff_correction.specs.InOrder.{reasonsAgainst}
 use Rattle.sff_correction.specs.Numbers.{correctNumbers}
 use Rattle.sff_correction.specs.Correct.{correctTest, corrected, correctOutcome, over, correctBuffer}
+use Rattle.sff_correction.proofs.RecordsLaid.{parsed-valid}
 use Rattle.sff_correction.proofs.InOrder.{correct-judged, correct-numbers, correct-zero}
 use Rattle.sff_correction.proofs.EditedBytes.{sections-kept}
 use Rattle.sff_correction.proofs.Carried.{test-file, test-record, test-reasons, refused-outcome, refused-buffer, done-outcome, done-buffer, done-valid, done-front}
@@ -60,26 +62,26 @@ module _ (buffer : List ℕ) (len : ℕ) (r : List ℕ) where
       pub carried-left : (correctOutcome buffer len r .length ≡ length (corrected buffer len r)) × (correctBuffer buffer len r ≡ over (corrected buffer len r) len buffer)
       carried-left = (rw (done-outcome buffer len r (outcome-zero e)), done-buffer buffer len r (outcome-zero e))
 
-      pub carried-valid : Valid (edited r (parse (take len buffer)))
+      pub carried-valid : Valid (edited (parseRecord r) (parse (take len buffer)))
       carried-valid = done-valid buffer len r (outcome-zero e) (bytes-take len buffer y) z
 
       -- what stands before that read and after it keeps every byte but the count at 20
       pub carried-kept : take (correctOutcome buffer len r .length) (correctBuffer buffer len r)
-          ≡ putAt 20 (bytesOf 4 (length (edited r (parse (take len buffer)) .reads)))
+          ≡ putAt 20 (bytesOf 4 (length (edited (parseRecord r) (parse (take len buffer)) .reads)))
           (
           take (readPlace (take len buffer) (position r)) (take len buffer)
-          ++ (layoutReads (instead r (target r (parse (take len buffer)))) ++ drop (readPlace (take len buffer) (position r) + length (layoutRead (target r (parse (take len buffer))))) (take len buffer))
+          ++ (layoutReads (instead (changeIn r) (target (parseRecord r) (parse (take len buffer)))) ++ drop (readPlace (take len buffer) (position r) + length (layoutRead (target (parseRecord r) (parse (take len buffer))))) (take len buffer))
           )
       carried-kept =
           let t = outcome-zero e in
           rw (done-outcome buffer len r t, done-buffer buffer len r t, done-front buffer len r t)
-          (sections-kept (length buffer) r (take len buffer) (bytes-take len buffer y) (test-file buffer len r t) (test-record buffer len r t) z (test-reasons buffer len r t))
+          (sections-kept (length buffer) (parseRecord r) (take len buffer) (bytes-take len buffer y) (test-file buffer len r t) (parsed-valid r z (test-record buffer len r t)) (test-reasons buffer len r t))
 
       -- the writers leave the same bytes
       pub corrected-written : parse (take len buffer) .index ≡ noIndex → (other : List ℕ) → length (corrected buffer len r) ≤ length other
-          → writeEach other (edited r (parse (take len buffer)))
+          → writeEach other (edited (parseRecord r) (parse (take len buffer)))
           ≡ record { outcome = correctOutcome buffer len r; buffer = putAt 0 (take (correctOutcome buffer len r .length) (correctBuffer buffer len r)) other }
       unfolding edited
       corrected-written i other h =
           let t = outcome-zero e in
-          write-each (edited r (parse (take len buffer))) i carried-valid other h ∙ rw (done-outcome buffer len r t, done-buffer buffer len r t, done-front buffer len r t)
+          write-each (edited (parseRecord r) (parse (take len buffer))) i carried-valid other h ∙ rw (done-outcome buffer len r t, done-buffer buffer len r t, done-front buffer len r t)

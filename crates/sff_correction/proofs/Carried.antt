@@ -16,9 +16,11 @@ use Rattle.answers.proofs.Answers.{first-ok, second-ok, under-ok}
 use Rattle.sff_format.proofs.FileLaid.{file-valid}
 use Rattle.sff_format.proofs.FileTaken.{file-taken, file-back}
 use Rattle.sff_correction.specs.Record.{recordTest}
+use Rattle.sff_correction.specs.RecordLayout.{parseRecord}
 use Rattle.sff_correction.specs.Edit.{edited}
 use Rattle.sff_correction.specs.Reasons.{reasons}
 use Rattle.sff_correction.specs.Correct.{correctTest, corrected, correctOutcome, over, correctBuffer}
+use Rattle.sff_correction.proofs.RecordsLaid.{parsed-valid}
 use Rattle.sff_correction.proofs.Edited.{reasons-room, edited-valid}
 
 module _ (buffer : List ℕ) (len : ℕ) (r : List ℕ) where
@@ -46,7 +48,7 @@ module _ (buffer : List ℕ) (len : ℕ) (r : List ℕ) where
     unfolding correctTest
     test-file = first-ok _ _ (second-ok _ _ (second-ok _ _ e))
 
-    pub test-reasons : reasons (length buffer) r (parse (take len buffer)) ≡ Accepted
+    pub test-reasons : reasons (length buffer) (parseRecord r) (parse (take len buffer)) ≡ Accepted
     unfolding correctTest
     test-reasons = second-ok _ _ (second-ok _ _ (second-ok _ _ e))
 
@@ -59,7 +61,7 @@ module _ (buffer : List ℕ) (len : ℕ) (r : List ℕ) where
     done-buffer = rw e
 
     pub done-fits : length (corrected buffer len r) ≤ length buffer
-    done-fits = reasons-room (length buffer) r (parse (take len buffer)) test-reasons
+    done-fits = reasons-room (length buffer) (parseRecord r) (parse (take len buffer)) test-reasons
 
     pub done-length : length (over (corrected buffer len r) len buffer) ≡ length buffer
     done-length =
@@ -71,28 +73,28 @@ module _ (buffer : List ℕ) (len : ℕ) (r : List ℕ) where
     done-front = take-settled (corrected buffer len r) (max len (length (corrected buffer len r))) buffer
 
     module _ (y : Bytes (take len buffer)) (z : Bytes r) where
-      pub done-valid : Valid (edited r (parse (take len buffer)))
-      done-valid = edited-valid (length buffer) r (parse (take len buffer)) test-reasons test-record z (file-valid (take len buffer) y test-file)
+      pub done-valid : Valid (edited (parseRecord r) (parse (take len buffer)))
+      done-valid = edited-valid (length buffer) (parseRecord r) (parse (take len buffer)) test-reasons (parsed-valid r z test-record) (file-valid (take len buffer) y test-file)
 
       -- the next record meets an accepted file
       pub done-accepted : fileTest (take (length (corrected buffer len r)) (over (corrected buffer len r) len buffer)) ≡ Accepted
-      done-accepted = rw done-front (file-taken (edited r (parse (take len buffer))) done-valid)
+      done-accepted = rw done-front (file-taken (edited (parseRecord r) (parse (take len buffer))) done-valid)
 
-      pub done-parsed : parse (take (length (corrected buffer len r)) (over (corrected buffer len r) len buffer)) ≡ edited r (parse (take len buffer))
-      done-parsed = rw done-front (file-back (edited r (parse (take len buffer))) done-valid)
+      pub done-parsed : parse (take (length (corrected buffer len r)) (over (corrected buffer len r) len buffer)) ≡ edited (parseRecord r) (parse (take len buffer))
+      done-parsed = rw done-front (file-back (edited (parseRecord r) (parse (take len buffer))) done-valid)
 
 -- the tests in order, for the code: each where those before it accept
 module _ (buffer : List ℕ) (len : ℕ) (r : List ℕ) where
   module _ (h : len ≤ length buffer) where
-    pub test-from-20 : correctTest buffer len r ≡ (recordTest r then fileTest (take len buffer) then reasons (length buffer) r (parse (take len buffer)))
+    pub test-from-20 : correctTest buffer len r ≡ (recordTest r then fileTest (take len buffer) then reasons (length buffer) (parseRecord r) (parse (take len buffer)))
     unfolding correctTest _then_ when
     test-from-20 = rw (le-ltb (length buffer) len h)
 
     module _ (q : recordTest r ≡ Accepted) where
-      pub test-from-file : correctTest buffer len r ≡ (fileTest (take len buffer) then reasons (length buffer) r (parse (take len buffer)))
+      pub test-from-file : correctTest buffer len r ≡ (fileTest (take len buffer) then reasons (length buffer) (parseRecord r) (parse (take len buffer)))
       unfolding _then_
       test-from-file = test-from-20 ∙ rw q
 
-      pub test-from-21 : fileTest (take len buffer) ≡ Accepted → correctTest buffer len r ≡ reasons (length buffer) r (parse (take len buffer))
+      pub test-from-21 : fileTest (take len buffer) ≡ Accepted → correctTest buffer len r ≡ reasons (length buffer) (parseRecord r) (parse (take len buffer))
       unfolding _then_
       test-from-21 t = test-from-file ∙ rw t

@@ -1,7 +1,7 @@
 -- In a corrected file every other read's sections keep their bytes and their order. Assumes nothing.
 use Prim.Native.Nat.{ℕ, _+_, _<_}
 use mathlib.Core.Path.{_≡_, refl, sym, ap, _∙_}
-use mathlib.Core.Bool.{Bool, true, false}
+use mathlib.Core.Bool.{false}
 use mathlib.Core.Logic.{inl, inr}
 use mathlib.Core.List.{List, [], _∷_, _++_, append-nil}
 use native.Mathlib.Omega.{arith}
@@ -11,7 +11,7 @@ use Rattle.octets.specs.Numbers.{Bytes, bytesOf}
 use Rattle.octets.proofs.Lists.{put-same}
 use Rattle.octets.proofs.Digits.{put-get}
 use Rattle.answers.specs.declared.Answer.the-variants.{Accepted}
-use Rattle.sff_format.specs.Model.{Read, File, layoutRead, layoutReads, layout}
+use Rattle.sff_format.specs.Model.{Read, File, noIndex, layoutRead, layoutReads, layout}
 use Rattle.sff_format.specs.Valid.{Valid}
 use Rattle.sff_format.specs.HeaderTest.{readCount}
 use Rattle.sff_format.specs.FileTest.{fileTest}
@@ -22,10 +22,10 @@ use Rattle.sff_format.proofs.FileLaid.{head-ok, reads-counted, file-valid}
 use Rattle.sff_format.proofs.FileTaken.{header-first, file-taken}
 use Rattle.sff_format.proofs.Written.{layout-bytes}
 use Rattle.sff_format.proofs.Places.{read-changed, read-gone}
-use Rattle.sff_correction.specs.Record.{position, isClips, isRename, recordTest}
+use Rattle.sff_correction.specs.Correction.{Change, clips, rename, remove, Correction, isClips, ValidCorrection}
 use Rattle.sff_correction.specs.Edit.{clipped, renamed, instead, target, edited}
 use Rattle.sff_correction.specs.Reasons.{reasons}
-use Rattle.sff_correction.proofs.Edited.{edited-clips, edited-name, edited-none, edited-with, clipped-size, reasons-position, reasons-index, edited-valid}
+use Rattle.sff_correction.proofs.Edited.{clipped-size, reasons-position, reasons-index, edited-valid}
 
 -- a file that keeps the rules says its own count
 counted : (f : File) → Valid f → putAt 20 (bytesOf 4 (length (f .reads))) (layout f) ≡ layout f
@@ -35,37 +35,36 @@ counted f v =
     let n : readCount (layout f) ≡ length (f .reads) = count-is (layout f) f v (header-first f v) in
     ap (λ (m : ℕ). putAt 20 (bytesOf 4 m) (layout f)) (sym n) ∙ put-get 4 20 20 (layout f) (layout f) (omega arith) y ∙ put-same 20 4 (layout f) (omega arith)
 
-module _ (room : ℕ) (r b : List ℕ) (y : Bytes b) (e : fileTest b ≡ Accepted) (q : recordTest r ≡ Accepted) (z : Bytes r) (o : reasons room r (parse b) ≡ Accepted) where
-  below : position r < readCount b
-  below = rw (reads-counted b) at (reasons-position room r (parse b) o)
+module _ (room : ℕ) (c : Correction) (b : List ℕ) (y : Bytes b) (e : fileTest b ≡ Accepted) (w : ValidCorrection c) (o : reasons room c (parse b) ≡ Accepted) where
+  below : c .position < readCount b
+  below = rw (reads-counted b) at (reasons-position room c (parse b) o)
 
   abbrev p : ℕ
-  p = readPlace b (position r)
+  p = readPlace b (c .position)
+
+  abbrev x : Read
+  x = target c (parse b)
 
   abbrev back : List ℕ
-  back = drop (p + length (layoutRead (target r (parse b)))) b
+  back = drop (p + length (layoutRead x)) b
 
-  valid : Valid (edited r (parse b))
-  valid = edited-valid room r (parse b) o q z (file-valid b y e)
+  -- the same position with any change
+  abbrev with : Change → Correction
+  with k = record { position = c .position; old-name = c .old-name; change = k }
+
+  abbrev Kept : Change → Type 0
+  Kept k = layout (edited (with k) (parse b)) ≡ putAt 20 (bytesOf 4 (length (edited (with k) (parse b) .reads))) (take p b ++ (layoutReads (instead k x) ++ back))
 
   -- one read in the place of another
-  one : (x : Read) → layout (edited r (parse b)) ≡ take p b ++ (layoutRead x ++ back) → instead r (target r (parse b)) ≡ x ∷ []
-      → layout (edited r (parse b)) ≡ putAt 20 (bytesOf 4 (length (edited r (parse b) .reads))) (take p b ++ (layoutReads (instead r (target r (parse b))) ++ back))
+  one : (k : Change) (r : Read) → Valid (edited (with k) (parse b)) → layout (edited (with k) (parse b)) ≡ take p b ++ (layoutRead r ++ back) → instead k x ≡ r ∷ [] → Kept k
   unfolding layoutReads
-  one x l i = sym (counted (edited r (parse b)) valid) ∙ ap (putAt 20 (bytesOf 4 (length (edited r (parse b) .reads)))) (l ∙ rw (i, append-nil (layoutRead x)))
+  one k r v l i = sym (counted (edited (with k) (parse b)) v) ∙ ap (putAt 20 (bytesOf 4 (length (edited (with k) (parse b) .reads)))) (l ∙ rw (i, append-nil (layoutRead r)))
 
-  pub sections-kept : layout (edited r (parse b)) ≡ putAt 20 (bytesOf 4 (length (edited r (parse b) .reads))) (take p b ++ (layoutReads (instead r (target r (parse b))) ++ back))
-  unfolding layoutReads instead
-  sections-kept = go (isClips r) (isRename r) refl refl
-    where
-      go : (s t : Bool) → isClips r ≡ s → isRename r ≡ t
-          → layout (edited r (parse b)) ≡ putAt 20 (bytesOf 4 (length (edited r (parse b) .reads))) (take p b ++ (layoutReads (instead r (target r (parse b))) ++ back))
-      go true t k l =
-          one (clipped r (target r (parse b)))
-          (ap layout (edited-with r (parse b) _ (edited-clips r (parse b) k)) ∙ read-changed b y e (position r) below (clipped r (target r (parse b))) (inl (clipped-size r (target r (parse b))))) (rw k)
-      go false true k l =
-          one (renamed r (target r (parse b)))
-          (ap layout (edited-with r (parse b) _ (edited-name r (parse b) k l)) ∙ read-changed b y e (position r) below (renamed r (target r (parse b))) (inr (reasons-index room r (parse b) o k))) (rw (k, l))
-      go false false k l =
-          ap layout (edited-with r (parse b) _ (edited-none r (parse b) k l)) ∙ read-gone b y e (position r) below (reasons-index room r (parse b) o k)
-          ∙ rw (k, l, edited-none r (parse b) k l)
+  kept : (k : Change) → Valid (edited (with k) (parse b)) → (isClips k ≡ false → parse b .index ≡ noIndex) → Kept k
+  unfolding layoutReads instead edited
+  kept (clips s t u z) v i = one (clips s t u z) (clipped s t u z x) v (read-changed b y e (c .position) below (clipped s t u z x) (inl (clipped-size s t u z x))) refl
+  kept (rename name) v i = one (rename name) (renamed name x) v (read-changed b y e (c .position) below (renamed name x) (inr (i refl))) refl
+  kept remove v i = read-gone b y e (c .position) below (i refl)
+
+  pub sections-kept : layout (edited c (parse b)) ≡ putAt 20 (bytesOf 4 (length (edited c (parse b) .reads))) (take p b ++ (layoutReads (instead (c .change) x) ++ back))
+  sections-kept = kept (c .change) (edited-valid room c (parse b) o w (file-valid b y e)) (reasons-index room c (parse b) o)

@@ -1,13 +1,14 @@
 -- A correction is answered for the first reason that holds in document 01's order; and with one of its numbers. Assumes nothing.
 use Prim.Native.Nat.{ℕ, zero, suc, _+_, _-_, _≤_, _<_}
 use mathlib.Core.Path.{_≡_, refl, sym, ap, _∙_}
-use mathlib.Core.Bool.{Bool, true, false, not, _&&_, _||_}
+use mathlib.Core.Bool.{Bool, true, false, not, _&&_, _||_, true≢false}
+use mathlib.Core.Logic.{_↔_}
 use mathlib.Core.List.{List, [], _∷_, _++_, append-nil}
 use native.Mathlib.Omega.{arith}
-use borrow.Author.Tests.{not-true, not-false, ltb-true, ltb-false}
+use borrow.Author.Tests.{not-true, not-false, ltb-true, ltb-false, lt-ltb, le-ltb}
 use lib.ListN.{length, take, drop, getD, length-drop}
 use lib.Seq.{length-take-le, getD-take, getD-drop}
-use lib.Dec.{ltb}
+use lib.Dec.{ltb, eqb}
 use Rattle.octets.specs.Parts.{same}
 use Rattle.octets.specs.Numbers.{Bytes}
 use Rattle.octets.proofs.Same.{same-is, is-same}
@@ -15,9 +16,12 @@ use Rattle.octets.proofs.AllBytes.{bytes-take}
 use Rattle.answers.specs.declared.Answer.{Answer}
 use Rattle.answers.specs.declared.Answer.the-variants.{Accepted, Refused}
 use Rattle.answers.specs.Answer.{numberOf, acceptedOr, _then_, Refusing, among, Among}
-use Rattle.answers.proofs.Answers.{not-accepted, first-ok, second-ok, both-ok, under-ok, ok-under, when-ok, or-left, or-right, and-both, cond-keeps}
+use Rattle.answers.proofs.Answers.{not-accepted, first-ok, second-ok, both-ok, under-ok, ok-under, when-ok, or-left, or-right, cond-keeps}
 use Rattle.answers.proofs.Numbered.{zero-accepted, then-refusing, when-refusing, more-numbers}
-use Rattle.answers.proofs.Reasons.{Tests, when-tests, Judged, chain-judged, last-judged}
+use Rattle.answers.proofs.Reasons.{Tests, when-tests, Judged, chain-judged}
+use Rattle.answers.specs.Rows.{RowByRow}
+use Rattle.answers.proofs.Rows.{rows-judged, rows-numbers}
+use Rattle.sff_format.specs.Rules.{declared}
 use Rattle.sff_format.specs.Model.{Read, File, noIndex, layout}
 use Rattle.sff_format.specs.ReadTest.{clipTest}
 use Rattle.sff_format.specs.Valid.{IsFile}
@@ -28,10 +32,12 @@ use Rattle.sff_format.specs.Numbers.{fileNumbers}
 use Rattle.sff_format.proofs.Keeps.{none-declared, no-index}
 use Rattle.sff_format.proofs.Format.{accepted}
 use Rattle.sff_format.proofs.Refusals.{file-numbers}
-use Rattle.sff_correction.specs.Record.{position, oldLength, newLength, newQualityLeft, newQualityRight, newAdapterLeft, newAdapterRight, oldName, newName, isClips, isRename, nameFieldTest, unusedTest, newClipsTest, newNameTest, recordTest}
+use Rattle.sff_correction.specs.Record.{kind, oldLength, newLength, nameFieldTest, unusedTest, newClipsTest, newNameTest, recordTest}
+use Rattle.sff_correction.specs.Correction.{Change, clips, rename, remove, Correction, isClips}
+use Rattle.sff_correction.specs.RecordLayout.{parseRecord}
 use Rattle.sff_correction.specs.Edit.{target, edited}
-use Rattle.sff_correction.specs.Reasons.{clipsAbove, bears, reasons}
-use Rattle.sff_correction.specs.InOrder.{malformed, ClipsWithin, Borne, ownReasons, reasonsAgainst}
+use Rattle.sff_correction.specs.Reasons.{hasTarget, clipsAbove, bears, takesName, positionAbove, otherName, indexPresent, clipAbove, nameBorne, noRoom, reasonRows, reasons}
+use Rattle.sff_correction.specs.InOrder.{malformed, Present, RenameOrRemove, ClipsWithin, NewClipAbove, Borne, ownReasons, reasonsAgainst}
 use Rattle.sff_correction.specs.Numbers.{recordNumbers, correctNumbers}
 use Rattle.sff_correction.specs.Correct.{correctTest}
 use Rattle.sff_correction.proofs.Edited.{clips-low}
@@ -40,7 +46,7 @@ use Rattle.sff_correction.proofs.RecordsLaid.{record-exactly}
 -- a name is borne exactly if some read has it
 bears-some : (name : List ℕ) (xs : List Read) → bears name xs ≡ true → (j : ℕ) × (j < length xs) × (getD xs j noRead .name ≡ name)
 unfolding bears
-bears-some name [] h = absurd (let z : _≡_ {A = ℕ} 0 1 = cc in let a : ⊥ = omega arith in a)
+bears-some name [] h = absurd (true≢false (sym h))
 bears-some name (x ∷ xs) h = go (same name (x .name)) refl h (bears-some name xs)
   where
     go : (t : Bool) → same name (x .name) ≡ t → (t || bears name xs) ≡ true → (bears name xs ≡ true → (j : ℕ) × (j < length xs) × (getD xs j noRead .name ≡ name))
@@ -54,11 +60,11 @@ none-bears name [] b j h e = omega arith
 none-bears name (x ∷ xs) b zero h e = let s : same name (x .name) ≡ true = rw e (is-same name) in go (bears name xs) (rw s at b)
   where
     go : (t : Bool) → (true || t) ≡ false → ⊥
-    go t d = let z : _≡_ {A = ℕ} 0 1 = cc in omega arith
+    go t d = true≢false d
 none-bears name (x ∷ xs) b (suc j) h e = none-bears name xs (go (same name (x .name)) b) j (omega arith) e
   where
     go : (t : Bool) → (t || bears name xs) ≡ false → bears name xs ≡ false
-    go true d = absurd (let z : _≡_ {A = ℕ} 0 1 = cc in let a : ⊥ = omega arith in a)
+    go true d = absurd (true≢false d)
     go false d = d
 
 pub bears-append : (name : List ℕ) (us ws : List Read) → bears name (us ++ ws) ≡ (bears name us || bears name ws)
@@ -111,12 +117,36 @@ module _ (name : List ℕ) (i : ℕ) (rs : List Read) (h : i < length rs) where
           let q = t .1 in
           (suc i + t .0, omega (arith, q, m), (λ z. omega (arith, z)), rw (getD-drop (suc i) rs (t .0) noRead) at (t .2))
 
--- 23's test by its facts
-module _ (n : ℕ) (r : List ℕ) where
-  low-within : clipsAbove n r ≡ false → ClipsWithin n r
+-- a test that holds exactly if the condition does
+told : (t : Bool) (H : Type 0) → (t ≡ true → H) → (t ≡ false → H → ⊥) → (t ≡ true) ↔ H
+told true H f g = (f, (λ h. refl))
+told false H f g = ((λ e. absurd (true≢false (sym e))), (λ h. absurd (g refl h)))
+
+-- two tests, the second asked where the first holds
+both : (s t : Bool) (A B : Type 0) → ((s ≡ true) ↔ A) → (s ≡ true → (t ≡ true) ↔ B) → ((s && t) ≡ true) ↔ (A × B)
+both true t A B h k = ((λ e. (h .0 refl, k refl .0 e)), (λ p. k refl .1 (p .1)))
+both false t A B h k = ((λ e. absurd (true≢false (sym e))), (λ p. absurd (true≢false (sym (h .1 (p .0))))))
+
+-- 22's test by its facts
+names-differ : (n m : List ℕ) → (not (same n m) ≡ true) ↔ (n ≡ m → ⊥)
+names-differ n m =
+    told (not (same n m)) (n ≡ m → ⊥) (λ e h. (let s : same n m ≡ true = rw h (is-same m) in true≢false (sym s ∙ not-true _ e))) (λ e h. h (same-is n m (not-false _ e)))
+
+-- 25's
+other-kind : (x : Change) → (not (isClips x) ≡ true) ↔ RenameOrRemove x
+other-kind (clips a b c d) = ((λ e. true≢false (sym e)), (λ h. absurd h))
+other-kind (rename name) = ((λ e. tt), (λ h. refl))
+other-kind remove = ((λ e. tt), (λ h. refl))
+
+has-index : (f : File) → (declared (f .index .offset) (length (f .index .bytes)) ≡ true) ↔ (f .index ≡ noIndex → ⊥)
+has-index f = told _ (f .index ≡ noIndex → ⊥) (λ e h. true≢false (sym e ∙ none-declared f h)) (λ e h. h (no-index f e))
+
+-- 23's
+module _ (n a b c d : ℕ) where
+  low-within : clipsAbove n (clips a b c d) ≡ false → ClipsWithin n a b c d
   unfolding clipTest
   low-within e =
-      let t = clips-low n r e in
+      let t = clips-low n a b c d e in
       record {
         quality-left = under-ok _ _ _ _ (first-ok _ _ t);
         quality-right = under-ok _ _ _ _ (first-ok _ _ (second-ok _ _ t));
@@ -124,69 +154,67 @@ module _ (n : ℕ) (r : List ℕ) where
         adapter-right = under-ok _ _ _ _ (second-ok _ _ (second-ok _ _ (second-ok _ _ t)));
       }
 
-  within-low : ClipsWithin n r → clipsAbove n r ≡ false
+  within-low : ClipsWithin n a b c d → clipsAbove n (clips a b c d) ≡ false
   unfolding clipsAbove clipTest acceptedOr
   within-low w =
-      let t : clipTest 0 n (newQualityLeft r) (newQualityRight r) (newAdapterLeft r) (newAdapterRight r) ≡ Accepted =
+      let t : clipTest 0 n a b c d ≡ Accepted =
       both-ok _ _ (ok-under _ _ _ _ (w .quality-left))
       (both-ok _ _ (ok-under _ _ _ _ (w .quality-right)) (both-ok _ _ (ok-under _ _ _ _ (w .adapter-left)) (ok-under _ _ _ _ (w .adapter-right)))) in
       ap (λ (a : Answer). acceptedOr a false true) t
 
--- a condition of one kind alone
-and-second : (s t : Bool) → (s && t) ≡ false → s ≡ true → t ≡ false
-and-second s t e k = rw k at e
+clip-above : (n : ℕ) (x : Change) → (clipsAbove n x ≡ true) ↔ NewClipAbove n x
+unfolding clipsAbove
+clip-above n (clips a b c d) =
+    told (clipsAbove n (clips a b c d)) (ClipsWithin n a b c d → ⊥) (λ e w. true≢false (sym e ∙ within-low n a b c d w)) (λ e h. h (low-within n a b c d e))
+clip-above n (rename name) = ((λ e. true≢false (sym e)), (λ h. absurd h))
+clip-above n remove = ((λ e. true≢false (sym e)), (λ h. absurd h))
 
-differ : {A : Type 0} (t : Bool) → t ≡ true → t ≡ false → A
-differ t e f = let g : true ≡ false = sym e ∙ f in let z : _≡_ {A = ℕ} 0 1 = cc in absurd (omega arith)
+-- 24's
+name-borne : (x : Change) (i : ℕ) (f : File) → i < length (f .reads) → (takesName x (replaced i [] (f .reads)) ≡ true) ↔ Borne x i f
+unfolding takesName
+name-borne (clips a b c d) i f h = ((λ e. true≢false (sym e)), (λ k. absurd k))
+name-borne (rename name) i f h =
+    told (bears name (replaced i [] (f .reads))) (Borne (rename name) i f) (some-other name i (f .reads) h)
+    (λ e b. free-others name i (f .reads) h e (b .0) (b .1) (b .2) (b .3))
+name-borne remove i f h = ((λ e. true≢false (sym e)), (λ k. absurd k))
 
--- each test is that of its reason
-module _ (room : ℕ) (r : List ℕ) (f : File) where
-  name-differs : same (oldName r) (target r f .name) ≡ false → oldName r ≡ target r f .name → ⊥
-  name-differs e h = differ (same (oldName r) (target r f .name)) (rw h (is-same (target r f .name))) e
+-- The two tables agree row by row.
+module _ (room : ℕ) (c : Correction) (f : File) where
+  present : (hasTarget c f ≡ true) ↔ Present c f
+  present = (ltb-true (c .position) (length (f .reads)), lt-ltb (c .position) (length (f .reads)))
 
-  pub reasons-judged : Judged (ownReasons room r f) (reasons room r f)
+  pub rows-agree : RowByRow (reasonRows room c f) (ownReasons room c f)
+  unfolding positionAbove otherName indexPresent clipAbove nameBorne noRoom
+  rows-agree =
+      let new = length (layout (edited c f)) in (
+        ((λ e. ltb-false (c .position) (length (f .reads)) (not-true _ e)), (λ h. ap not (le-ltb (c .position) (length (f .reads)) h))),
+        refl,
+        (
+          both _ _ _ _ present (λ e. names-differ (c .old-name) (target c f .name)),
+          refl,
+          (
+            both _ _ _ _ (other-kind (c .change)) (λ e. has-index f),
+            refl,
+            (
+              both _ _ _ _ present (λ e. clip-above (length (target c f .bases)) (c .change)),
+              refl,
+              (
+                both _ _ _ _ present (λ e. name-borne (c .change) (c .position) f (present .0 e)),
+                refl,
+                (both _ _ _ _ present (λ e. (ltb-true room new, lt-ltb room new)), refl, tt),
+              ),
+            ),
+          ),
+        ),
+      )
+
+  pub reasons-judged : Judged (ownReasons room c f) (reasons room c f)
   unfolding reasons
-  reasons-judged =
-      chain-judged _ _ _ _
-      (when-tests (length (f .reads) ≤ position r) _ 21 0 (λ e. ltb-false (position r) (length (f .reads)) (not-true _ e)) (λ e h. (let k = ltb-true (position r) (length (f .reads)) (not-false _ e) in omega (arith, k, h))))
-      (
-      λ below.
-      let i : position r < length (f .reads) = ltb-true (position r) (length (f .reads)) (not-false _ (when-ok _ 21 0 below)) in
-      chain-judged _ _ _ _
-      (when-tests (oldName r ≡ target r f .name → ⊥) _ 22 0 (λ e. name-differs (not-true _ e)) (λ e h. h (same-is (oldName r) (target r f .name) (not-false _ e))))
-      (
-      λ named.
-      chain-judged _ _ _ _
-      (
-      when-tests ((isClips r ≡ false) × (f .index ≡ noIndex → ⊥)) _ 25 0
-      (λ e. let t = and-both (not (isClips r)) _ e in (not-true (isClips r) (t .0), (λ h. differ _ (t .1) (none-declared f h))))
-      (λ e h. h .1 (no-index f (and-second (not (isClips r)) _ e (ap not (h .0)))))
-      )
-      (
-      λ unindexed.
-      chain-judged _ _ _ _
-      (
-      when-tests ((isClips r ≡ true) × (ClipsWithin (length (target r f .bases)) r → ⊥)) _ 23 0
-      (λ e. let t = and-both (isClips r) _ e in (t .0, (λ w. differ _ (t .1) (within-low (length (target r f .bases)) r w))))
-      (λ e h. h .1 (low-within (length (target r f .bases)) r (and-second (isClips r) _ e (h .0))))
-      )
-      (
-      λ low.
-      chain-judged _ _ _ _
-      (
-      when-tests ((isRename r ≡ true) × Borne r f) _ 24 0
-      (λ e. let t = and-both (isRename r) _ e in (t .0, some-other (newName r) (position r) (f .reads) i (t .1)))
-      (λ e h. let b = h .1 in free-others (newName r) (position r) (f .reads) i (and-second (isRename r) _ e (h .0)) (b .0) (b .1) (b .2) (b .3))
-      )
-      (
-      λ free.
-      last-judged _ _
-      (when-tests (room < length (layout (edited r f))) _ 26 0 (λ e. ltb-true room (length (layout (edited r f))) e) (λ e h. (let k = ltb-false room (length (layout (edited r f))) e in omega (arith, k, h))))
-      )
-      )
-      )
-      )
-      )
+  reasons-judged = rows-judged (reasonRows room c f) (ownReasons room c f) rows-agree
+
+  pub reasons-numbers : Among correctNumbers (reasons room c f)
+  unfolding reasons among
+  reasons-numbers = rows-numbers correctNumbers (reasonRows room c f) refl
 
 -- the record's own test, and the file's
 field-20 : (p n : ℕ) (r : List ℕ) → Refusing (λ m q. (m ≡ 20) × (q ≡ 0)) (nameFieldTest p n r)
@@ -208,9 +236,9 @@ record-20 r =
     (
     then-refusing _ _ _ (field-20 16 (oldLength r) r)
     (
-    then-refusing _ _ _ (cond-keeps (Refusing (λ m q. (m ≡ 20) × (q ≡ 0))) (isClips r) Accepted (unusedTest 8 8 r) tt (unused-20 8 8 r))
+    then-refusing _ _ _ (cond-keeps (Refusing (λ m q. (m ≡ 20) × (q ≡ 0))) (eqb (kind r) 1) Accepted (unusedTest 8 8 r) tt (unused-20 8 8 r))
     (
-    cond-keeps (Refusing (λ m q. (m ≡ 20) × (q ≡ 0))) (isRename r) (nameFieldTest 56 (newLength r) r) (unusedTest 2 1 r then unusedTest 56 40 r)
+    cond-keeps (Refusing (λ m q. (m ≡ 20) × (q ≡ 0))) (eqb (kind r) 2) (nameFieldTest 56 (newLength r) r) (unusedTest 2 1 r then unusedTest 56 40 r)
     (field-20 56 (newLength r) r) (then-refusing _ _ _ (unused-20 2 1 r) (unused-20 56 40 r))
     )
     )
@@ -253,28 +281,19 @@ module _ (buffer : List ℕ) (len : ℕ) (r : List ℕ) where
       (
       λ inside.
       chain-judged _ _ _ _ (record-tests r z)
-      (λ formed. chain-judged _ _ _ _ (file-tests (take len buffer) (bytes-take len buffer y)) (λ kept. reasons-judged (length buffer) r (parse (take len buffer))))
+      (λ formed. chain-judged _ _ _ _ (file-tests (take len buffer) (bytes-take len buffer y)) (λ kept. reasons-judged (length buffer) (parseRecord r) (parse (take len buffer))))
       )
 
   -- the numbers of document 01's list
   pub correct-numbers : Among correctNumbers (correctTest buffer len r)
-  unfolding correctTest reasons among
+  unfolding correctTest among
   correct-numbers =
       then-refusing _ _ _ (when-refusing _ _ 14 _ refl)
       (
       then-refusing _ _ _ (only-20 correctNumbers refl (recordTest r) (record-20 r))
       (
       then-refusing _ _ _ (more-numbers fileNumbers correctNumbers refl (fileTest (take len buffer)) (file-numbers (take len buffer)))
-      (
-      then-refusing _ _ _ (when-refusing _ _ 21 _ refl)
-      (
-      then-refusing _ _ _ (when-refusing _ _ 22 _ refl)
-      (
-      then-refusing _ _ _ (when-refusing _ _ 25 _ refl)
-      (then-refusing _ _ _ (when-refusing _ _ 23 _ refl) (then-refusing _ _ _ (when-refusing _ _ 24 _ refl) (when-refusing _ _ 26 _ refl)))
-      )
-      )
-      )
+      (reasons-numbers (length buffer) (parseRecord r) (parse (take len buffer)))
       )
       )
 

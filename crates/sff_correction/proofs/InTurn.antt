@@ -24,11 +24,12 @@ use Rattle.sff_format.specs.FileTest.{fileTest}
 use Rattle.sff_format.specs.Parse.{parse}
 use Rattle.sff_format.proofs.Format.{accepted}
 use Rattle.sff_format.proofs.FileTaken.{file-back}
+use Rattle.sff_correction.specs.Correction.{Correction}
 use Rattle.sff_correction.specs.Edit.{edited}
 use Rattle.sff_correction.specs.InOrder.{reasonsAgainst}
 use Rattle.sff_correction.specs.Correct.{correctTest, corrected, over, correctOutcome, correctBuffer}
 use Rattle.sff_correction.specs.ListRun.{recordAt, firstRecords, Run, ran, turns, runList}
-use Rattle.sff_correction.specs.ListModel.{fileAfter, reasonFor, firstRefused, greatest, lastTried, reasonsInTurn, runOn}
+use Rattle.sff_correction.specs.ListModel.{correctionAt, fileAfter, reasonFor, firstRefused, greatest, lastTried, reasonsInTurn, runOn}
 use Rattle.sff_correction.proofs.ListTurns.{turn-on, turn-stop, list-20, list-run}
 use Rattle.sff_correction.proofs.ListClaim.{Held, held-more, list-claim, stop-most, stop-before, stop-first, stop-refused, held-test, held-new, start-held, none-before, first-most, one-at, turns-claim}
 use Rattle.sff_correction.proofs.Carried.{done-outcome, done-buffer}
@@ -98,30 +99,30 @@ earlier-left b len l = go (eqb (length l % 96) 0) refl
 -- a record in its turn is answered by its own reasons on the model, and carried out leaves the model's next file
 module _ (k : ℕ) (b l : List ℕ) (f : File) (s : Held k b l f) where
   abbrev there : List ℕ
-  there = settled (layout (fileAfter k l f)) (greatest k l f) b
+  there = settled (layout (fileAfter k (correctionAt l) f)) (greatest k (correctionAt l) f) b
 
   abbrev size : ℕ
-  size = length (layout (fileAfter k l f))
+  size = length (layout (fileAfter k (correctionAt l) f))
 
   held-answer : correctOutcome there size (recordAt k l) .answer ≡ reasonFor (length b) k l f
   unfolding correctOutcome
   held-answer = held-test 0 k b l f s
 
   module _ (e : reasonFor (length b) k l f ≡ Accepted) where
-    held-length : correctOutcome there size (recordAt k l) .length ≡ length (layout (fileAfter (suc k) l f))
+    held-length : correctOutcome there size (recordAt k l) .length ≡ length (layout (fileAfter (suc k) (correctionAt l) f))
     held-length = rw (done-outcome there size (recordAt k l) (held-test 0 k b l f s ∙ e), held-new 0 k b l f s)
 
-    held-buffer : correctBuffer there size (recordAt k l) ≡ settled (layout (fileAfter (suc k) l f)) (greatest (suc k) l f) b
+    held-buffer : correctBuffer there size (recordAt k l) ≡ settled (layout (fileAfter (suc k) (correctionAt l) f)) (greatest (suc k) (correctionAt l) f) b
     unfolding greatest
     held-buffer =
         done-buffer there size (recordAt k l) (held-test 0 k b l f s ∙ e)
-        ∙ rw (held-new 0 k b l f s, settled-again (layout (fileAfter (suc k) l f)) (layout (fileAfter k l f)) (greatest k l f) b (s .low))
+        ∙ rw (held-new 0 k b l f s, settled-again (layout (fileAfter (suc k) (correctionAt l) f)) (layout (fileAfter k (correctionAt l) f)) (greatest k (correctionAt l) f) b (s .low))
 
 -- records keep the header's characters and any index
-pub header-kept : (k : ℕ) (l : List ℕ) (f : File) → (fileAfter k l f .flow-characters ≡ f .flow-characters) × (fileAfter k l f .key ≡ f .key) × (fileAfter k l f .index ≡ f .index)
+pub header-kept : (k : ℕ) (cs : ℕ → Correction) (f : File) → (fileAfter k cs f .flow-characters ≡ f .flow-characters) × (fileAfter k cs f .key ≡ f .key) × (fileAfter k cs f .index ≡ f .index)
 unfolding fileAfter edited
-header-kept zero l f = (refl, refl, refl)
-header-kept (suc k) l f = header-kept k l f
+header-kept zero cs f = (refl, refl, refl)
+header-kept (suc k) cs f = header-kept k cs f
 
 -- what the model's file leaves are bytes
 bytes-laid : (f : File) → Valid f → Bytes (layout f)
@@ -147,7 +148,7 @@ module _ (b : List ℕ) (len : ℕ) (l : List ℕ) (y : Bytes b) (z : Bytes l) (
 
   -- what the first k records leave, of those before the first for which a reason holds
   before-is : (k : ℕ) → k ≤ firstRefused (length l / 96) 0 (length b) l file
-      → runList b len (firstRecords k l) ≡ ran k Accepted (length (layout (fileAfter k l file))) (settled (layout (fileAfter k l file)) (greatest k l file) b)
+      → runList b len (firstRecords k l) ≡ ran k Accepted (length (layout (fileAfter k (correctionAt l) file))) (settled (layout (fileAfter k (correctionAt l) file)) (greatest k (correctionAt l) file) b)
   unfolding lastTried
   before-is k i =
       let m = first-most (length b) l file (length l / 96) 0 in
@@ -198,17 +199,17 @@ module _ (b : List ℕ) (len : ℕ) (l : List ℕ) (y : Bytes b) (z : Bytes l) (
       held : Held k b l file
       held = held-upto all k (omega (arith, count-is))
 
-      here : before k ≡ ran k Accepted (length (layout (fileAfter k l file))) (settled (layout (fileAfter k l file)) (greatest k l file) b)
+      here : before k ≡ ran k Accepted (length (layout (fileAfter k (correctionAt l) file))) (settled (layout (fileAfter k (correctionAt l) file)) (greatest k (correctionAt l) file) b)
       here = before-is k (omega (arith, count-is))
 
-      pub valid-in-turn : Valid (fileAfter k l file)
+      pub valid-in-turn : Valid (fileAfter k (correctionAt l) file)
       valid-in-turn = held .valid
 
       pub room-in-turn : length (before k .buffer) ≡ length b
-      room-in-turn = rw here (length-settled (layout (fileAfter k l file)) (greatest k l file) b (held .low) (held .high))
+      room-in-turn = rw here (length-settled (layout (fileAfter k (correctionAt l) file)) (greatest k (correctionAt l) file) b (held .low) (held .high))
 
-      pub file-in-turn : take (before k .outcome .length) (before k .buffer) ≡ layout (fileAfter k l file)
-      file-in-turn = rw here (take-settled (layout (fileAfter k l file)) (greatest k l file) b)
+      pub file-in-turn : take (before k .outcome .length) (before k .buffer) ≡ layout (fileAfter k (correctionAt l) file)
+      file-in-turn = rw here (take-settled (layout (fileAfter k (correctionAt l) file)) (greatest k (correctionAt l) file) b)
 
       pub inside-in-turn : before k .outcome .length ≤ length b
       inside-in-turn = let s = held in rw here (omega (arith, s .low, s .high))
@@ -217,14 +218,14 @@ module _ (b : List ℕ) (len : ℕ) (l : List ℕ) (y : Bytes b) (z : Bytes l) (
       unfolding settled
       bytes-in-turn =
           rw here
-          (bytes-both (filled (greatest k l file) (layout (fileAfter k l file))) (drop (greatest k l file) b)
-          (bytes-filled (greatest k l file) (layout (fileAfter k l file)) (bytes-laid (fileAfter k l file) valid-in-turn)) (bytes-drop (greatest k l file) b y))
+          (bytes-both (filled (greatest k (correctionAt l) file) (layout (fileAfter k (correctionAt l) file))) (drop (greatest k (correctionAt l) file) b)
+          (bytes-filled (greatest k (correctionAt l) file) (layout (fileAfter k (correctionAt l) file)) (bytes-laid (fileAfter k (correctionAt l) file) valid-in-turn)) (bytes-drop (greatest k (correctionAt l) file) b y))
 
       -- so 14 and the file's refusal hold of none in its turn, and its other reasons are those on that file
       pub reasons-in-turn : NoneHolds (reasonsAgainst (before k .buffer) (before k .outcome .length) (recordAt k l)) ↔ NoneHolds (reasonsInTurn (length b) k l file)
       reasons-in-turn =
-          let p : parse (take (before k .outcome .length) (before k .buffer)) ≡ fileAfter k l file = rw file-in-turn (file-back (fileAfter k l file) valid-in-turn) in
-          let o : IsFile (take (before k .outcome .length) (before k .buffer)) = rw file-in-turn (fileAfter k l file, valid-in-turn, refl) in (
+          let p : parse (take (before k .outcome .length) (before k .buffer)) ≡ fileAfter k (correctionAt l) file = rw file-in-turn (file-back (fileAfter k (correctionAt l) file) valid-in-turn) in
+          let o : IsFile (take (before k .outcome .length) (before k .buffer)) = rw file-in-turn (fileAfter k (correctionAt l) file, valid-in-turn, refl) in (
             (λ n. (n .1 .0, rw (room-in-turn, p) at (n .1 .1 .1))),
             (λ n. ((λ q. omega (arith, inside-in-turn, room-in-turn, q)), (n .0, ((λ q. q o), rw (room-in-turn, p) (n .1))))),
           )
@@ -245,5 +246,5 @@ module _ (b : List ℕ) (len : ℕ) (l : List ℕ) (y : Bytes b) (z : Bytes l) (
         run-is ∙ rw (sym count-is, lt-ltb count all i, here count (omega arith), held-answer count b l file s)
 
     -- the file that the list leaves
-    pub list-file : take (runList b len l .outcome .length) (runList b len l .buffer) ≡ layout (fileAfter count l file)
+    pub list-file : take (runList b len l .outcome .length) (runList b len l .buffer) ≡ layout (fileAfter count (correctionAt l) file)
     list-file = rw (run-leaves .0, run-leaves .1) (file-in-turn count (omega arith))

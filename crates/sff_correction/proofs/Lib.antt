@@ -1,7 +1,9 @@
 -- What a well-formed record tells, and that its definition is the right one.
 pub mod Records
 pub mod RecordsLaid
--- What a record for which no reason holds makes of a file.
+-- What the fields that the code holds ask for.
+pub mod Asked
+-- What a correction for which no reason holds makes of a file.
 pub mod Edited
 pub mod EditedSizes
 pub mod EditedBytes

@@ -25,44 +25,46 @@ use Rattle.answers.proofs.Reasons.{Judged, chain-judged, none-accepted}
 use Rattle.sff_format.proofs.FileLaid.{file-laid, file-valid}
 use Rattle.sff_format.proofs.FileTaken.{file-taken, file-back}
 use Rattle.sff_correction.specs.Record.{recordTest}
+use Rattle.sff_correction.specs.RecordLayout.{parseRecord}
 use Rattle.sff_correction.specs.Edit.{edited}
 use Rattle.sff_correction.specs.Reasons.{reasons}
 use Rattle.sff_correction.specs.Correct.{correctTest, corrected, correctOutcome, correctBuffer}
 use Rattle.sff_correction.specs.Numbers.{correctNumbers}
 use Rattle.sff_correction.specs.ListRun.{recordAt, Run, ran, turns, runList}
-use Rattle.sff_correction.specs.ListModel.{fileAfter, reasonFor, firstRefused, greatest, lastTried, runOn, reasonsInTurn, firstTest, listAfresh}
+use Rattle.sff_correction.specs.ListModel.{correctionAt, fileAfter, reasonFor, firstRefused, greatest, lastTried, runOn, reasonsInTurn, firstTest, listAfresh}
+use Rattle.sff_correction.proofs.RecordsLaid.{parsed-valid}
 use Rattle.sff_correction.proofs.Edited.{reasons-room, edited-valid}
 use Rattle.sff_correction.proofs.ListTurns.{turn-on, turn-stop, list-20, list-run, list-none}
 use Rattle.sff_correction.proofs.InOrder.{record-tests, reasons-judged, correct-numbers}
 
 -- on a buffer that holds a file that keeps the rules, the tests are those over the model
 module _ (f : File) (m : ℕ) (b : List ℕ) (v : Valid f) (h : length (layout f) ≤ m) (i : m ≤ length b) (r : List ℕ) where
-  model-test : correctTest (settled (layout f) m b) (length (layout f)) r ≡ (recordTest r then reasons (length b) r f)
+  model-test : correctTest (settled (layout f) m b) (length (layout f)) r ≡ (recordTest r then reasons (length b) (parseRecord r) f)
   unfolding correctTest _then_ when
   model-test =
       let n : length (settled (layout f) m b) ≡ length b = length-settled (layout f) m b h i in
       let l : ltb (length b) (length (layout f)) ≡ false = le-ltb (length b) (length (layout f)) (omega arith) in
       rw (n, l, take-settled (layout f) m b, file-taken f v, file-back f v)
 
-  model-new : corrected (settled (layout f) m b) (length (layout f)) r ≡ layout (edited r f)
+  model-new : corrected (settled (layout f) m b) (length (layout f)) r ≡ layout (edited (parseRecord r) f)
   model-new = rw (take-settled (layout f) m b, file-back f v)
 
 -- the state of a run after k records
 pub record Held (k : ℕ) (b l : List ℕ) (f : File) : Type 0 where
-  pub valid : Valid (fileAfter k l f)
-  pub low : length (layout (fileAfter k l f)) ≤ greatest k l f
-  pub high : greatest k l f ≤ length b
+  pub valid : Valid (fileAfter k (correctionAt l) f)
+  pub low : length (layout (fileAfter k (correctionAt l) f)) ≤ greatest k (correctionAt l) f
+  pub high : greatest k (correctionAt l) f ≤ length b
 
 pub held-more : (k : ℕ) (b l : List ℕ) (f : File) → Bytes l → Held k b l f → reasonFor (length b) k l f ≡ Accepted → Held (suc k) b l f
 unfolding fileAfter reasonFor greatest
 held-more k b l f y s e =
     let q = first-ok _ _ e in
     let o = second-ok _ _ e in
-    let n = reasons-room (length b) (recordAt k l) (fileAfter k l f) o in
+    let n = reasons-room (length b) (correctionAt l k) (fileAfter k (correctionAt l) f) o in
     let g = s .low in
     let x = s .high in
     record {
-      valid = edited-valid (length b) (recordAt k l) (fileAfter k l f) o q (bytes-part (96 * k) 96 l y) (s .valid);
+      valid = edited-valid (length b) (correctionAt l k) (fileAfter k (correctionAt l) f) o (parsed-valid (recordAt k l) (bytes-part (96 * k) 96 l y) q) (s .valid);
       low = omega arith;
       high = omega arith;
     }
@@ -70,37 +72,37 @@ held-more k b l f y s e =
 module _ (m k : ℕ) (b l : List ℕ) (f : File) (s : Held k b l f) where
   -- the buffer after k records
   abbrev pub now : List ℕ
-  now = settled (layout (fileAfter k l f)) (greatest k l f) b
+  now = settled (layout (fileAfter k (correctionAt l) f)) (greatest k (correctionAt l) f) b
 
-  pub held-test : correctTest now (length (layout (fileAfter k l f))) (recordAt k l) ≡ reasonFor (length b) k l f
+  pub held-test : correctTest now (length (layout (fileAfter k (correctionAt l) f))) (recordAt k l) ≡ reasonFor (length b) k l f
   unfolding reasonFor
-  held-test = model-test (fileAfter k l f) (greatest k l f) b (s .valid) (s .low) (s .high) (recordAt k l)
+  held-test = model-test (fileAfter k (correctionAt l) f) (greatest k (correctionAt l) f) b (s .valid) (s .low) (s .high) (recordAt k l)
 
-  pub held-new : corrected now (length (layout (fileAfter k l f))) (recordAt k l) ≡ layout (fileAfter (suc k) l f)
+  pub held-new : corrected now (length (layout (fileAfter k (correctionAt l) f))) (recordAt k l) ≡ layout (fileAfter (suc k) (correctionAt l) f)
   unfolding fileAfter
-  held-new = model-new (fileAfter k l f) (greatest k l f) b (s .valid) (s .low) (s .high) (recordAt k l)
+  held-new = model-new (fileAfter k (correctionAt l) f) (greatest k (correctionAt l) f) b (s .valid) (s .low) (s .high) (recordAt k l)
 
   step-on : reasonFor (length b) k l f ≡ Accepted
-      → turns (suc m) k now (length (layout (fileAfter k l f))) l
-      ≡ turns m (suc k) (settled (layout (fileAfter (suc k) l f)) (greatest (suc k) l f) b) (length (layout (fileAfter (suc k) l f))) l
+      → turns (suc m) k now (length (layout (fileAfter k (correctionAt l) f))) l
+      ≡ turns m (suc k) (settled (layout (fileAfter (suc k) (correctionAt l) f)) (greatest (suc k) (correctionAt l) f) b) (length (layout (fileAfter (suc k) (correctionAt l) f))) l
   unfolding greatest
   step-on e =
-      turn-on m k now (length (layout (fileAfter k l f))) l (held-test ∙ e)
-      ∙ rw (held-new, settled-again (layout (fileAfter (suc k) l f)) (layout (fileAfter k l f)) (greatest k l f) b (s .low))
+      turn-on m k now (length (layout (fileAfter k (correctionAt l) f))) l (held-test ∙ e)
+      ∙ rw (held-new, settled-again (layout (fileAfter (suc k) (correctionAt l) f)) (layout (fileAfter k (correctionAt l) f)) (greatest k (correctionAt l) f) b (s .low))
 
-  step-stop : (all n p : ℕ) → k < all → reasonFor (length b) k l f ≡ Refused n p → turns (suc m) k now (length (layout (fileAfter k l f))) l ≡ runOn all k b l f
+  step-stop : (all n p : ℕ) → k < all → reasonFor (length b) k l f ≡ Refused n p → turns (suc m) k now (length (layout (fileAfter k (correctionAt l) f))) l ≡ runOn all k b l f
   unfolding lastTried
-  step-stop all n p h e = turn-stop m k now (length (layout (fileAfter k l f))) l n p (held-test ∙ e) ∙ rw (lt-ltb k all h, e)
+  step-stop all n p h e = turn-stop m k now (length (layout (fileAfter k (correctionAt l) f))) l n p (held-test ∙ e) ∙ rw (lt-ltb k all h, e)
 
 turns-are : (m k : ℕ) (b l : List ℕ) (f : File) (all : ℕ) → Bytes l → all ≡ k + m → Held k b l f
-    → turns m k (settled (layout (fileAfter k l f)) (greatest k l f) b) (length (layout (fileAfter k l f))) l ≡ runOn all (firstRefused m k (length b) l f) b l f
+    → turns m k (settled (layout (fileAfter k (correctionAt l) f)) (greatest k (correctionAt l) f) b) (length (layout (fileAfter k (correctionAt l) f))) l ≡ runOn all (firstRefused m k (length b) l f) b l f
 unfolding turns firstRefused lastTried acceptedOr
 turns-are zero k b l f all y e s = rw (le-ltb k all (omega arith))
 turns-are (suc m) k b l f all y e s = go (reasonFor (length b) k l f) refl (turns-are m (suc k) b l f all y (omega arith))
   where
     go : (a : Answer) → reasonFor (length b) k l f ≡ a
-        → (Held (suc k) b l f → turns m (suc k) (settled (layout (fileAfter (suc k) l f)) (greatest (suc k) l f) b) (length (layout (fileAfter (suc k) l f))) l ≡ runOn all (firstRefused m (suc k) (length b) l f) b l f)
-        → turns (suc m) k (settled (layout (fileAfter k l f)) (greatest k l f) b) (length (layout (fileAfter k l f))) l ≡ runOn all (acceptedOr a (firstRefused m (suc k) (length b) l f) k) b l f
+        → (Held (suc k) b l f → turns m (suc k) (settled (layout (fileAfter (suc k) (correctionAt l) f)) (greatest (suc k) (correctionAt l) f) b) (length (layout (fileAfter (suc k) (correctionAt l) f))) l ≡ runOn all (firstRefused m (suc k) (length b) l f) b l f)
+        → turns (suc m) k (settled (layout (fileAfter k (correctionAt l) f)) (greatest k (correctionAt l) f) b) (length (layout (fileAfter k (correctionAt l) f))) l ≡ runOn all (acceptedOr a (firstRefused m (suc k) (length b) l f) k) b l f
     go Accepted x ih = step-on m k b l f s x ∙ ih (held-more k b l f y s x)
     go (Refused n p) x ih = step-stop m k b l f s all n p (omega arith) x
 
@@ -164,11 +166,11 @@ module _ (room : ℕ) (l : List ℕ) (f : File) where
 pub turn-judged : (room k : ℕ) (l : List ℕ) (f : File) → Bytes l → Judged (reasonsInTurn room k l f) (reasonFor room k l f)
 unfolding reasonFor
 turn-judged room k l f y =
-    chain-judged _ _ _ _ (record-tests (recordAt k l) (bytes-part (96 * k) 96 l y)) (λ e. reasons-judged room (recordAt k l) (fileAfter k l f))
+    chain-judged _ _ _ _ (record-tests (recordAt k l) (bytes-part (96 * k) 96 l y)) (λ e. reasons-judged room (correctionAt l k) (fileAfter k (correctionAt l) f))
 
 -- any list on any buffer with any stated length
 module _ (b : List ℕ) (len : ℕ) (l : List ℕ) where
-  first-then : correctTest b len (recordAt 0 l) ≡ (firstTest b len l then reasons (length b) (recordAt 0 l) (parse (take len b)))
+  first-then : correctTest b len (recordAt 0 l) ≡ (firstTest b len l then reasons (length b) (correctionAt l 0) (parse (take len b)))
   unfolding correctTest firstTest
   first-then = sym (then-assoc _ _ _ ∙ ap (λ (a : Answer). when (ltb (length b) len) 14 0 then a) (then-assoc _ _ _))
 

@@ -5,7 +5,7 @@ use mathlib.Core.Bool.{Bool, true, false, _||_}
 use mathlib.Core.List.{List, [], _∷_}
 use native.Mathlib.Omega.{arith}
 use lib.ListN.{length, getD}
-use lib.Dec.{ltb}
+use lib.Dec.{ltb, eqb}
 use borrow.Author.Tests.{ltb-false, eqb-true}
 use Rattle.octets.specs.Parts.{part}
 use Rattle.octets.specs.Numbers.{Bytes, Words}
@@ -16,7 +16,7 @@ use Rattle.octets.proofs.Stands.{number-small}
 use Rattle.answers.specs.declared.Answer.the-variants.{Accepted}
 use Rattle.answers.specs.Answer.{when, _then_}
 use Rattle.answers.proofs.Answers.{first-ok, second-ok, when-ok, same-ok, or-left, or-right}
-use Rattle.sff_correction.specs.Record.{kind, oldLength, newLength, position, newQualityLeft, newQualityRight, newAdapterLeft, newAdapterRight, oldName, newName, isRename, nameFieldTest, unusedTest, newClipsTest, newNameTest, recordTest}
+use Rattle.sff_correction.specs.Record.{kind, oldLength, newLength, position, newQualityLeft, newQualityRight, newAdapterLeft, newAdapterRight, oldName, newName, nameFieldTest, unusedTest, newClipsTest, newNameTest, recordTest}
 
 -- neither under nor above
 within-ok : (least most n c q : ℕ) → when (ltb n least || ltb most n) c q ≡ Accepted → (least ≤ n) × (n ≤ most)
@@ -100,11 +100,11 @@ module _ (r : List ℕ) (e : recordTest r ≡ Accepted) where
   old-zeros = field-zeros 16 (oldLength r) r old-ok
 
   -- a rename has a new name, and another kind none
-  pub renames : isRename r ≡ true → nameFieldTest 56 (newLength r) r ≡ Accepted
+  pub renames : eqb (kind r) 2 ≡ true → nameFieldTest 56 (newLength r) r ≡ Accepted
   unfolding newNameTest
   renames k = rw k at new-name-ok
 
-  pub no-new-name : isRename r ≡ false → (newLength r ≡ 0) × Every isZero (part 56 40 r)
+  pub no-new-name : eqb (kind r) 2 ≡ false → (newLength r ≡ 0) × Every isZero (part 56 40 r)
   unfolding newNameTest
   no-new-name k =
       let l = record-96 in
@@ -112,18 +112,18 @@ module _ (r : List ℕ) (e : recordTest r ≡ Accepted) where
       (unused-zero 2 r (omega arith) (first-ok _ _ f), unused-zeros 56 40 r (second-ok _ _ f))
 
   pub new-most : newLength r ≤ 40
-  new-most = go (isRename r) refl
+  new-most = go (eqb (kind r) 2) refl
     where
-      go : (t : Bool) → isRename r ≡ t → newLength r ≤ 40
+      go : (t : Bool) → eqb (kind r) 2 ≡ t → newLength r ≤ 40
       go true k = field-most 56 (newLength r) r (renames k)
       go false k = let z = no-new-name k .0 in omega arith
 
   -- also where the name is empty, since another kind has none
   pub new-good : Every isNameByte (newName r)
   unfolding run
-  new-good = go (isRename r) refl
+  new-good = go (eqb (kind r) 2) refl
     where
-      go : (t : Bool) → isRename r ≡ t → Every isNameByte (newName r)
+      go : (t : Bool) → eqb (kind r) 2 ≡ t → Every isNameByte (newName r)
       go true k = field-good 56 (newLength r) r (renames k)
       go false k = rw (no-new-name k .0)
 
@@ -133,7 +133,7 @@ module _ (r : List ℕ) (e : recordTest r ≡ Accepted) where
   pub new-size : length (newName r) ≡ newLength r
   new-size = let l = record-96 in let m = new-most in length-part 56 (newLength r) r (omega arith)
 
-  pub new-zeros : isRename r ≡ true → fails isZero (part (56 + newLength r) (40 - newLength r) r) ≡ false
+  pub new-zeros : eqb (kind r) 2 ≡ true → fails isZero (part (56 + newLength r) (40 - newLength r) r) ≡ false
   new-zeros k = field-zeros 56 (newLength r) r (renames k)
 
   pub new-clips-fit : Bytes r → Words (newQualityLeft r ∷ newQualityRight r ∷ newAdapterLeft r ∷ newAdapterRight r ∷ [])

@@ -1,12 +1,13 @@
 -- A record is well formed exactly if it is the layout of a correction that keeps the rules. Assumes nothing.
 use Prim.Native.Nat.{ℕ, _+_, _-_, _≤_, _<_}
 use mathlib.Core.Path.{_≡_, refl, sym, ap, _∙_}
-use mathlib.Core.Bool.{Bool, true, false}
+use mathlib.Core.Bool.{Bool, true, false, cond}
 use mathlib.Core.Logic.{_↔_}
 use mathlib.Core.List.{List, [], _∷_, _++_}
 use native.Mathlib.Omega.{arith}
 use lib.ListN.{length, getD, length-append}
 use lib.Seq.{take-length}
+use lib.Dec.{eqb}
 use borrow.Author.Tests.{le-ltb, eqb-true, eqb-false, eq-eqb, ne-eqb}
 use Rattle.octets.specs.Parts.{part, filled}
 use Rattle.octets.specs.Numbers.{Bytes, bytesOf, fields}
@@ -19,8 +20,9 @@ use Rattle.octets.proofs.Stands.{Stands, Numbers, Fit, width, read-stands, stan
 use Rattle.answers.specs.declared.Answer.the-variants.{Accepted}
 use Rattle.answers.proofs.Answers.{both-ok, ok-when, ok-same}
 use Rattle.sff_format.proofs.Written.{name-small}
-use Rattle.sff_correction.specs.Record.{kind, oldLength, newLength, position, newQualityLeft, newQualityRight, newAdapterLeft, newAdapterRight, oldName, newName, isClips, isRename, nameFieldTest, unusedTest, newClipsTest, newNameTest, recordTest}
-use Rattle.sff_correction.specs.RecordLayout.{Change, clips, rename, remove, Correction, kindOf, nameOf, clipFields, clipsOf, recordFields, layoutRecord, ValidName, ValidChange, ValidCorrection}
+use Rattle.sff_correction.specs.Record.{kind, oldLength, newLength, position, newQualityLeft, newQualityRight, newAdapterLeft, newAdapterRight, oldName, newName, nameFieldTest, unusedTest, newClipsTest, newNameTest, recordTest}
+use Rattle.sff_correction.specs.Correction.{Change, clips, rename, remove, Correction, ValidName, ValidChange, ValidCorrection}
+use Rattle.sff_correction.specs.RecordLayout.{kindOf, nameOf, clipFields, clipsOf, recordFields, layoutRecord, changeIn, parseRecord}
 use Rattle.sff_correction.proofs.Records.{field-least, unused-zeros, unused-zero, record-96, kind-low, kind-high, zero-ok, old-zeros, new-clips-ok, old-least, old-most, old-good, renames, no-new-name, new-most, new-good, old-size, new-size, new-zeros, new-clips-fit, position-fits}
 
 -- no clips are eight zeros
@@ -34,9 +36,11 @@ said r =
     (1, kind r) ∷ (1, oldLength r) ∷ (1, newLength r) ∷ (1, 0) ∷ (4, position r)
     ∷ clipFields (newQualityLeft r) (newQualityRight r) (newAdapterLeft r) (newAdapterRight r)
 
--- what a record says, with a change
-abbrev correction : List ℕ → Change → Correction
-correction r x = record { position = position r; old-name = oldName r; change = x }
+-- the change x keeps the rules and lies as the record r has it
+abbrev Laid : List ℕ → Change → Type 0
+Laid r x =
+    ValidChange x × (kindOf x ≡ kind r) × (nameOf x ≡ newName r)
+    × (clipsOf x ≡ clipFields (newQualityLeft r) (newQualityRight r) (newAdapterLeft r) (newAdapterRight r))
 
 -- a well-formed record is the layout of what it says
 module _ (r : List ℕ) (y : Bytes r) (e : recordTest r ≡ Accepted) where
@@ -46,9 +50,9 @@ module _ (r : List ℕ) (y : Bytes r) (e : recordTest r ≡ Accepted) where
       filled-stands p (p + n) 40 (40 - n) (part p n r) r (rw l) (rw l) (omega arith) (read-stands p n r (omega arith)) z
 
   new-rest : Every isZero (part (56 + newLength r) (40 - newLength r) r)
-  new-rest = go (isRename r) refl
+  new-rest = go (eqb (kind r) 2) refl
     where
-      go : (t : Bool) → isRename r ≡ t → Every isZero (part (56 + newLength r) (40 - newLength r) r)
+      go : (t : Bool) → eqb (kind r) 2 ≡ t → Every isZero (part (56 + newLength r) (40 - newLength r) r)
       go true k = none-fails isZero _ (new-zeros r e k)
       go false k = rw (no-new-name r e k .0) (no-new-name r e k .1)
 
@@ -80,7 +84,7 @@ module _ (r : List ℕ) (y : Bytes r) (e : recordTest r ≡ Accepted) where
       (name-stands 56 (newLength r) n (omega arith) new-rest) in
       sym s ∙ rw l3 (take-length r)
 
-  no-clips : isClips r ≡ false → Numbers r 0 8 (clipFields 0 0 0 0)
+  no-clips : eqb (kind r) 1 ≡ false → Numbers r 0 8 (clipFields 0 0 0 0)
   unfolding newClipsTest
   no-clips k =
       let l = record-96 r e in
@@ -88,45 +92,39 @@ module _ (r : List ℕ) (y : Bytes r) (e : recordTest r ≡ Accepted) where
       let s : Stands 8 (filled 8 []) r = filled-stands 8 8 8 8 [] r refl refl (omega arith) refl z in
       stand-fields r (clipFields 0 0 0 0) 0 8 (omega arith) (omega arith, (omega arith, (omega arith, (omega arith, tt)))) (rw zero-clips at s)
 
-  no-name : isRename r ≡ false → [] ≡ newName r
+  no-name : eqb (kind r) 2 ≡ false → [] ≡ newName r
   no-name k = rw (no-new-name r e k .0)
 
   old-valid : ValidName (oldName r)
   old-valid = record { least = rw (old-size r e) (old-least r e); most = rw (old-size r e) (old-most r e); good = old-good r e }
 
-  valid : (x : Change) → ValidChange x → ValidCorrection (correction r x)
-  valid x w = record { position-fits = position-fits r e y; old-good = old-valid; change-good = w }
-
-  is-laid :
-      (x : Change) → kindOf x ≡ kind r → nameOf x ≡ newName r → clipsOf x ≡ clipFields (newQualityLeft r) (newQualityRight r) (newAdapterLeft r) (newAdapterRight r)
-      → layoutRecord (correction r x) ≡ r
-  unfolding layoutRecord recordFields
-  is-laid x k n c = rw (k, n, c, old-size r e, new-size r e) laid
-
-  pub record-laid : (c : Correction) × ValidCorrection c × (layoutRecord c ≡ r)
-  record-laid = go (isClips r) (isRename r) refl refl
+  change-laid : Laid r (changeIn r)
+  unfolding changeIn
+  change-laid = go (eqb (kind r) 1) (eqb (kind r) 2) refl refl
     where
-      go : (s t : Bool) → isClips r ≡ s → isRename r ≡ t → (c : Correction) × ValidCorrection c × (layoutRecord c ≡ r)
+      go : (s t : Bool) → eqb (kind r) 1 ≡ s → eqb (kind r) 2 ≡ t
+          → Laid r (cond s (clips (newQualityLeft r) (newQualityRight r) (newAdapterLeft r) (newAdapterRight r)) (cond t (rename (newName r)) remove))
       go true t a b =
           let k = eqb-true (kind r) 1 a in
-          let m : isRename r ≡ false = ne-eqb (kind r) 2 (λ f. omega arith) in
-          let x : Change = clips (newQualityLeft r) (newQualityRight r) (newAdapterLeft r) (newAdapterRight r) in
-          (correction r x, valid x (new-clips-fit r e y), is-laid x (sym k) (no-name m) refl)
+          let m : eqb (kind r) 2 ≡ false = ne-eqb (kind r) 2 (λ f. omega arith) in (new-clips-fit r e y, sym k, no-name m, refl)
       go false true a b =
-          let k = eqb-true (kind r) 2 b in
-          let f = renames r e b in
           let z = no-clips a in
-          let x : Change = rename (newName r) in
-          let n : ValidName (newName r) = record { least = rw (new-size r e) (field-least 56 (newLength r) r f); most = rw (new-size r e) (new-most r e); good = new-good r e } in
-          (correction r x, valid x n, is-laid x (sym k) refl (rw (z .0, z .1 .0, z .1 .1 .0, z .1 .1 .1 .0)))
+          let n : ValidName (newName r) = record { least = rw (new-size r e) (field-least 56 (newLength r) r (renames r e b)); most = rw (new-size r e) (new-most r e); good = new-good r e } in
+          (n, sym (eqb-true (kind r) 2 b), refl, rw (z .0, z .1 .0, z .1 .1 .0, z .1 .1 .1 .0))
       go false false a b =
           let i = eqb-false (kind r) 1 a in
           let j = eqb-false (kind r) 2 b in
           let l = kind-low r e in
           let h = kind-high r e in
           let z = no-clips a in
-          let k : 3 ≡ kind r = omega arith in
-          (correction r remove, valid remove tt, is-laid remove k (no-name b) (rw (z .0, z .1 .0, z .1 .1 .0, z .1 .1 .1 .0)))
+          let k : 3 ≡ kind r = omega arith in (tt, k, no-name b, rw (z .0, z .1 .0, z .1 .1 .0, z .1 .1 .1 .0))
+
+  pub parsed-valid : ValidCorrection (parseRecord r)
+  parsed-valid = record { position-fits = position-fits r e y; old-good = old-valid; change-good = change-laid .0 }
+
+  pub parsed-laid : layoutRecord (parseRecord r) ≡ r
+  unfolding layoutRecord recordFields
+  parsed-laid = let c = change-laid in rw (c .1, c .2, c .3, old-size r e, new-size r e) laid
 
 -- the layout of a correction that keeps the rules is well formed
 change-kind : (x : Change) → (1 ≤ kindOf x) × (kindOf x ≤ 3)
@@ -217,42 +215,86 @@ module _ (b : List ℕ) (y : Bytes b) (l : length b ≡ 96) where
   new-taken (rename name) v k n s = rw (eq-eqb (kind b) 2 k, n) (name-taken 56 name b v (omega arith) s)
   new-taken remove v k n s = no-name-taken (λ g. omega arith) n s
 
+-- and the change is read back
+change-back : (b : List ℕ) (x : Change) → kind b ≡ kindOf x → newName b ≡ nameOf x → Numbers b 0 8 (clipsOf x) → changeIn b ≡ x
+unfolding changeIn
+change-back b (clips a c d f) k m n = rw (eq-eqb (kind b) 1 k, n .0, n .1 .0, n .1 .1 .0, n .1 .1 .1 .0)
+change-back b (rename name) k m n = rw (ne-eqb (kind b) 1 (λ g. omega arith), eq-eqb (kind b) 2 k, m)
+change-back b remove k m n = rw (ne-eqb (kind b) 1 (λ g. omega arith), ne-eqb (kind b) 2 (λ g. omega arith))
+
 module _ (c : Correction) (v : ValidCorrection c) where
-  pub record-taken : recordTest (layoutRecord c) ≡ Accepted
-  unfolding recordTest recordFields layoutRecord
+  abbrev b : List ℕ
+  b = layoutRecord c
+
+  l : length b ≡ 96
+  l = record-size c v
+
+  front : Stands 0 (fields (recordFields c) ++ filled 40 (c .old-name)) b
+  unfolding layoutRecord
+  front = let h = l in stands-left 0 (fields (recordFields c) ++ filled 40 (c .old-name)) (filled 40 (nameOf (c .change))) b (omega arith) (stands-self b)
+
+  new : Stands 56 (filled 40 (nameOf (c .change))) b
+  unfolding layoutRecord
+  new = let h = l in stands-right 0 56 (fields (recordFields c) ++ filled 40 (c .old-name)) (filled 40 (nameOf (c .change))) b (rw (front-size c v)) (omega arith) (stands-self b)
+
+  old : Stands 16 (filled 40 (c .old-name)) b
+  old = let h = l in stands-right 0 16 (fields (recordFields c)) (filled 40 (c .old-name)) b (rw (fields-size c v)) (omega arith) front
+
+  numbers : Numbers b 0 0 (recordFields c)
+  numbers = let h = l in stand-fields b (recordFields c) 0 0 (omega arith) (fit c v) (stands-left 0 (fields (recordFields c)) (filled 40 (c .old-name)) b (omega arith) front)
+
+  -- the fields of one byte
+  ones : (kind b ≡ kindOf (c .change)) × (oldLength b ≡ length (c .old-name)) × (newLength b ≡ length (nameOf (c .change))) × (getD b 3 0 ≡ 0)
+  unfolding recordFields
+  ones =
+      let h = l in
+      let n = numbers in (
+        sym (number-one 0 b (omega arith)) ∙ n .0,
+        sym (number-one 1 b (omega arith)) ∙ n .1 .0,
+        sym (number-one 2 b (omega arith)) ∙ n .1 .1 .0,
+        sym (number-one 3 b (omega arith)) ∙ n .1 .1 .1 .0,
+      )
+
+  clips-there : Numbers b 0 8 (clipsOf (c .change))
+  unfolding recordFields
+  clips-there = numbers .1 .1 .1 .1 .1
+
+  pub record-taken : recordTest b ≡ Accepted
+  unfolding recordTest
   record-taken =
-      let b : List ℕ = layoutRecord c in
-      let y : Bytes b = record-bytes c v in
-      let l : length b ≡ 96 = record-size c v in
+      let h = l in
+      let o = ones in
       let x = c .change in
-      let s : Stands 0 (fields (recordFields c) ++ filled 40 (c .old-name) ++ filled 40 (nameOf x)) b = stands-self b in
-      let front : Stands 0 (fields (recordFields c) ++ filled 40 (c .old-name)) b = stands-left 0 (fields (recordFields c) ++ filled 40 (c .old-name)) (filled 40 (nameOf x)) b (omega arith) s in
-      let new : Stands 56 (filled 40 (nameOf x)) b = stands-right 0 56 (fields (recordFields c) ++ filled 40 (c .old-name)) (filled 40 (nameOf x)) b (rw (front-size c v)) (omega arith) s in
-      let old : Stands 16 (filled 40 (c .old-name)) b = stands-right 0 16 (fields (recordFields c)) (filled 40 (c .old-name)) b (rw (fields-size c v)) (omega arith) front in
-      let n : Numbers b 0 0 (recordFields c) = stand-fields b (recordFields c) 0 0 (omega arith) (fit c v) (stands-left 0 (fields (recordFields c)) (filled 40 (c .old-name)) b (omega arith) front) in
-      let k : kind b ≡ kindOf x = sym (number-one 0 b (omega arith)) ∙ n .0 in
-      let o : oldLength b ≡ length (c .old-name) = sym (number-one 1 b (omega arith)) ∙ n .1 .0 in
-      let m : newLength b ≡ length (nameOf x) = sym (number-one 2 b (omega arith)) ∙ n .1 .1 .0 in
-      let z : getD b 3 0 ≡ 0 = sym (number-one 3 b (omega arith)) ∙ n .1 .1 .1 .0 in
       let q = change-kind x in
       both-ok _ _ (ok-same (length b) 96 _ _ l)
       (
-      both-ok _ _ (ok-when _ _ _ (rw (k, le-ltb (kindOf x) 1 (q .0), le-ltb 3 (kindOf x) (q .1))))
+      both-ok _ _ (ok-when _ _ _ (rw (o .0, le-ltb (kindOf x) 1 (q .0), le-ltb 3 (kindOf x) (q .1))))
       (
-      both-ok _ _ (zero-unused 3 b (omega arith) z)
+      both-ok _ _ (zero-unused 3 b (omega arith) (o .3))
       (
-      both-ok _ _ (rw o (name-taken 16 (c .old-name) b (v .old-good) (omega arith) old))
-      (
-      both-ok _ _ (clips-taken b y l x k (n .1 .1 .1 .1 .1))
-      (new-taken b y l x (v .change-good) k m new)
-      )
+      both-ok _ _ (rw (o .1) (name-taken 16 (c .old-name) b (v .old-good) (omega arith) old))
+      (both-ok _ _ (clips-taken b (record-bytes c v) l x (o .0) clips-there) (new-taken b (record-bytes c v) l x (v .change-good) (o .0) (o .2) new))
       )
       )
       )
 
+  -- a name of n bytes that fill their field with zeros after
+  name-back : (p n : ℕ) (name : List ℕ) → p ≤ 96 → n ≡ length name → Stands p (filled 40 name) b → part p n b ≡ name
+  name-back p n name i e s = let h = l in rw e (stands-filled p (p + length name) 40 (40 - length name) name b refl refl (omega arith) s .0)
+
+  pub laid-parsed : parseRecord b ≡ c
+  unfolding recordFields
+  laid-parsed =
+      let o = ones in
+      let at : position b ≡ c .position = numbers .1 .1 .1 .1 .0 in
+      let from : oldName b ≡ c .old-name = name-back 16 (oldLength b) (c .old-name) (omega arith) (o .1) old in
+      let to : newName b ≡ nameOf (c .change) = name-back 56 (newLength b) (nameOf (c .change)) (omega arith) (o .2) new in
+      let x : changeIn b ≡ c .change = change-back b (c .change) (o .0) to clips-there in
+      λ j. record { position = at j; old-name = from j; change = x j }
+
 -- well formed exactly: some correction that keeps the rules is laid out so
 pub record-exactly : (r : List ℕ) → (Bytes r × (recordTest r ≡ Accepted)) ↔ ((c : Correction) × ValidCorrection c × (layoutRecord c ≡ r))
 record-exactly r = (
-  (λ t. record-laid r (t .0) (t .1)),
+  (λ t. (parseRecord r, parsed-valid r (t .0) (t .1), parsed-laid r (t .0) (t .1))),
   (λ t. (rw (← t .2) (record-bytes (t .0) (t .1)), ap recordTest (sym (t .2)) ∙ record-taken (t .0) (t .1))),
 )

@@ -12,6 +12,7 @@ use Rattle.sff_format.specs.FileTest.{fileTest}
 use Rattle.sff_format.specs.Parse.{parse}
 use Rattle.sff_format.specs.Writing.{outcome}
 use Rattle.sff_correction.specs.Record.{recordTest}
+use Rattle.sff_correction.specs.RecordLayout.{parseRecord}
 use Rattle.sff_correction.specs.Edit.{edited}
 use Rattle.sff_correction.specs.Reasons.{reasons}
 
@@ -21,11 +22,11 @@ correctTest buffer len r =
     when (ltb (length buffer) len) 14 0
     then recordTest r
     then fileTest (take len buffer)
-    then reasons (length buffer) r (parse (take len buffer))
+    then reasons (length buffer) (parseRecord r) (parse (take len buffer))
 
 -- the file written afresh from its reads, with the one of the record changed or left out
 abbrev pub corrected : List ℕ → ℕ → List ℕ → List ℕ
-corrected buffer len r = layout (edited r (parse (take len buffer)))
+corrected buffer len r = layout (edited (parseRecord r) (parse (take len buffer)))
 
 -- the answer, and "the file's length afterwards (the length given if nothing is done)"
 unfoldable pub correctOutcome : List ℕ → ℕ → List ℕ → Outcome

@@ -13,33 +13,40 @@ use Rattle.sff_format.specs.Model.{File, layout}
 use Rattle.sff_format.specs.FileTest.{fileTest}
 use Rattle.sff_format.specs.Parse.{parse}
 use Rattle.sff_correction.specs.Record.{recordTest}
+use Rattle.sff_correction.specs.Correction.{Correction}
+use Rattle.sff_correction.specs.RecordLayout.{parseRecord}
 use Rattle.sff_correction.specs.Edit.{edited}
 use Rattle.sff_correction.specs.Reasons.{reasons}
 use Rattle.sff_correction.specs.InOrder.{malformed, ownReasons}
 use Rattle.sff_correction.specs.ListRun.{recordAt, Run, ran}
 
--- the file as the first n records of the list l, one after the other, have left it
-unfoldable pub fileAfter : ℕ → List ℕ → File → File
-fileAfter zero l f = f
-fileAfter (suc n) l f = edited (recordAt n l) (fileAfter n l f)
+-- the correction that the record at position k of the list l says
+abbrev pub correctionAt : List ℕ → ℕ → Correction
+correctionAt l k = parseRecord (recordAt k l)
+
+-- the file as the first n of the corrections, one after the other, have left it
+unfoldable pub fileAfter : ℕ → (ℕ → Correction) → File → File
+fileAfter zero cs f = f
+fileAfter (suc n) cs f = edited (cs n) (fileAfter n cs f)
 
 -- the first reason against the record at position k "in its turn", in a buffer of so many bytes
 unfoldable pub reasonFor : ℕ → ℕ → List ℕ → File → Answer
-reasonFor room k l f = recordTest (recordAt k l) then reasons room (recordAt k l) (fileAfter k l f)
+reasonFor room k l f = recordTest (recordAt k l) then reasons room (correctionAt l k) (fileAfter k (correctionAt l) f)
 
--- the same in words of the model: 14 and the file's refusal are not among them, since a record that was carried out leaves an accepted file in the buffer
+-- the same in words of the model: 14 and the file's refusal are not among them, since a record that was carried out
+-- leaves an accepted file in the buffer
 abbrev pub reasonsInTurn : ℕ → ℕ → List ℕ → File → List Reason
-reasonsInTurn room k l f = malformed (recordAt k l) ∷ ownReasons room (recordAt k l) (fileAfter k l f)
+reasonsInTurn room k l f = malformed (recordAt k l) ∷ ownReasons room (correctionAt l k) (fileAfter k (correctionAt l) f)
 
 -- the first of the m positions from k on for which a reason holds in its turn, or their end
 unfoldable pub firstRefused : ℕ → ℕ → ℕ → List ℕ → File → ℕ
 firstRefused zero k room l f = k
 firstRefused (suc m) k room l f = let more = firstRefused m (suc k) room l f in acceptedOr (reasonFor room k l f) more k
 
--- the greatest length that the file had while the first n records were carried out
-unfoldable pub greatest : ℕ → List ℕ → File → ℕ
-greatest zero l f = length (layout f)
-greatest (suc n) l f = max (greatest n l f) (length (layout (fileAfter (suc n) l f)))
+-- the greatest length that the file had while the first n of the corrections were carried out
+unfoldable pub greatest : ℕ → (ℕ → Correction) → File → ℕ
+greatest zero cs f = length (layout f)
+greatest (suc n) cs f = max (greatest n cs f) (length (layout (fileAfter (suc n) cs f)))
 
 -- what the last record tried was answered, where n of `all` were carried out
 unfoldable pub lastTried : ℕ → ℕ → ℕ → List ℕ → File → Answer
@@ -48,7 +55,9 @@ lastTried all n room l f = cond (ltb n all) (reasonFor room n l f) Accepted
 -- the whole answer and the whole buffer, where n of `all` records were carried out: the file written afresh, zeros up to the greatest length, the rest as it was
 abbrev pub runOn : ℕ → ℕ → List ℕ → List ℕ → File → Run
 runOn all n buffer l f =
-    ran n (lastTried all n (length buffer) l f) (length (layout (fileAfter n l f))) (settled (layout (fileAfter n l f)) (greatest n l f) buffer)
+    let cs = correctionAt l in
+    let new = layout (fileAfter n cs f) in
+    ran n (lastTried all n (length buffer) l f) (length new) (settled new (greatest n cs f) buffer)
 
 -- what is asked before any record's own reasons: 14, the first record's 20, the file's refusal
 unfoldable pub firstTest : List ℕ → ℕ → List ℕ → Answer

@@ -1,6 +1,6 @@
 -- "Correction records": the fields of a record, and when it is well formed. Assumes nothing: these are definitions.
 use Prim.Native.Nat.{ℕ, _+_, _-_}
-use mathlib.Core.Bool.{Bool, cond, not, _||_}
+use mathlib.Core.Bool.{cond, not, _||_}
 use mathlib.Core.List.{List}
 use lib.ListN.{length, getD}
 use lib.Dec.{ltb, eqb}
@@ -43,12 +43,6 @@ oldName r = part 16 (oldLength r) r
 abbrev pub newName : List ℕ → List ℕ
 newName r = part 56 (newLength r) r
 
-abbrev pub isClips : List ℕ → Bool
-isClips r = eqb (kind r) 1
-
-abbrev pub isRename : List ℕ → Bool
-isRename r = eqb (kind r) 2
-
 -- "Names fill 1 to 40 bytes of 33 to 126, zeros after": a name of n bytes in the 40 bytes from place p on
 unfoldable pub nameFieldTest : ℕ → ℕ → List ℕ → Answer
 nameFieldTest p n r =
@@ -62,11 +56,11 @@ unusedTest p n r = when (fails isZero (part p n r)) 20 0
 
 -- new clips are used by kind 1 alone
 unfoldable pub newClipsTest : List ℕ → Answer
-newClipsTest r = cond (isClips r) Accepted (unusedTest 8 8 r)
+newClipsTest r = cond (eqb (kind r) 1) Accepted (unusedTest 8 8 r)
 
 -- a new name is used by kind 2 alone
 unfoldable pub newNameTest : List ℕ → Answer
-newNameTest r = cond (isRename r) (nameFieldTest 56 (newLength r) r) (unusedTest 2 1 r then unusedTest 56 40 r)
+newNameTest r = cond (eqb (kind r) 2) (nameFieldTest 56 (newLength r) r) (unusedTest 2 1 r then unusedTest 56 40 r)
 
 -- "20 record malformed or not 96 bytes"
 unfoldable pub recordTest : List ℕ → Answer

@@ -1,22 +1,15 @@
--- What a correction record says, and how it lies in its bytes. Assumes nothing: these are definitions.
-use Prim.Native.Nat.{ℕ, _≤_, _<_}
+-- How a correction lies in the bytes of a record, and back. Assumes nothing: these are definitions.
+use Prim.Native.Nat.{ℕ}
+use mathlib.Core.Bool.{cond}
 use mathlib.Core.List.{List, [], _∷_, _++_}
 use lib.ListN.{length}
+use lib.Dec.{eqb}
 use Rattle.octets.specs.Parts.{filled}
-use Rattle.octets.specs.Numbers.{fields, Words}
-use Rattle.octets.specs.Scans.{Every, isNameByte}
+use Rattle.octets.specs.Numbers.{fields}
+use Rattle.sff_correction.specs.Record.{kind, position, newQualityLeft, newQualityRight, newAdapterLeft, newAdapterRight, oldName, newName}
+use Rattle.sff_correction.specs.Correction.{Change, clips, rename, remove, Correction}
 
--- "1 clips, 2 rename, 3 remove", with what the kind uses: four new clips in file order, a new name, nothing
-pub data Change : Type 0 where
-  clips : ℕ → ℕ → ℕ → ℕ → Change
-  rename : List ℕ → Change
-  remove : Change
-
-pub record Correction : Type 0 where
-  pub position : ℕ
-  pub old-name : List ℕ
-  pub change : Change
-
+-- "kind (0: 1 clips, 2 rename, 3 remove)"
 abbrev pub kindOf : Change → ℕ
 kindOf (clips a b c d) = 1
 kindOf (rename name) = 2
@@ -44,19 +37,12 @@ recordFields c = (1, kindOf (c .change)) ∷ (1, length (c .old-name)) ∷ (1, l
 unfoldable pub layoutRecord : Correction → List ℕ
 layoutRecord c = fields (recordFields c) ++ filled 40 (c .old-name) ++ filled 40 (nameOf (c .change))
 
--- "Names fill 1 to 40 bytes of 33 to 126"
-pub record ValidName (name : List ℕ) : Type 0 where
-  pub least : 1 ≤ length name
-  pub most : length name ≤ 40
-  pub good : Every isNameByte name
+-- what a record's kind asks for
+unfoldable pub changeIn : List ℕ → Change
+changeIn r =
+    cond (eqb (kind r) 1) (clips (newQualityLeft r) (newQualityRight r) (newAdapterLeft r) (newAdapterRight r))
+    (cond (eqb (kind r) 2) (rename (newName r)) remove)
 
-abbrev pub ValidChange : Change → Type 0
-ValidChange (clips a b c d) = Words (a ∷ b ∷ c ∷ d ∷ [])
-ValidChange (rename name) = ValidName name
-ValidChange remove = Unit {0}
-
--- the old name is such a name, and the numbers fit their fields
-pub record ValidCorrection (c : Correction) : Type 0 where
-  pub position-fits : c .position < 4294967296
-  pub old-good : ValidName (c .old-name)
-  pub change-good : ValidChange (c .change)
+-- the correction that a record says
+abbrev pub parseRecord : List ℕ → Correction
+parseRecord r = record { position = position r; old-name = oldName r; change = changeIn r }

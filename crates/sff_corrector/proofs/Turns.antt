@@ -1,6 +1,7 @@
 -- One record after another: what a carried-out record leaves for the next, and the loop over a list. Assumes nothing.
 use Prim.Native.Nat.{ℕ, suc, _+_, _-_, _*_, _/_, _%_, _≤_, _<_}
 use mathlib.Core.Path.{_≡_, refl, sym, ap, _∙_}
+use mathlib.Core.Bool.{true, not}
 use mathlib.Core.List.{List}
 use native.Mathlib.Omega.{arith}
 use native.Mathlib.Numerals.{add-one}
@@ -8,25 +9,24 @@ use borrow.Author.Tests.{lt-ltb, le-ltb}
 use lib.ListN.{length, take}
 use Rattle.octets.specs.Numbers.{Bytes}
 use Rattle.octets.proofs.AllBytes.{bytes-take}
-use Rattle.octets.proofs.Stands.{number-small}
 use Rattle.answers.specs.declared.Answer.{Answer}
 use Rattle.answers.specs.declared.Answer.the-variants.{Accepted, Refused}
 use Rattle.sff_format.specs.declared.Outcome.{Outcome}
 use Rattle.answers.specs.Answer.{when, _then_}
+use Rattle.answers.proofs.Rows.{row-holds}
 use Rattle.sff_format.specs.HeaderTest.{readCount}
 use Rattle.sff_format.specs.FileTest.{fileTest}
 use Rattle.sff_format.specs.Parse.{parse}
 use Rattle.sff_format.specs.Places.{place, readPlace}
-use Rattle.sff_format.proofs.HeaderLaws.{fits-31}
-use Rattle.sff_format.proofs.FileLaid.{head-ok, reads-counted}
+use Rattle.sff_format.proofs.FileLaid.{reads-counted}
 use Rattle.sff_format.proofs.Written.{layout-bytes}
 use Rattle.sff_format.proofs.Places.{place-found}
 use Rattle.sff_find.specs.declared.inner.Mark.{Mark}
-use Rattle.sff_find.specs.Mark.{Marked}
 use Rattle.sff_correction.specs.declared.ListOutcome.{ListOutcome}
 use Rattle.sff_correction.specs.Record.{position, recordTest}
+use Rattle.sff_correction.specs.RecordLayout.{parseRecord}
 use Rattle.sff_correction.specs.Edit.{edited}
-use Rattle.sff_correction.specs.Reasons.{reasons}
+use Rattle.sff_correction.specs.Reasons.{positionAbove, reasons}
 use Rattle.sff_correction.specs.Correct.{correctTest, corrected, correctOutcome, over, correctBuffer}
 use Rattle.sff_correction.specs.ListRun.{recordAt, Run, ran, turns, runList}
 use Rattle.sff_correction.proofs.Edited.{reasons-position, place-kept}
@@ -34,16 +34,8 @@ use Rattle.sff_correction.proofs.Carried.{refused-outcome, refused-buffer, done
 use Rattle.sff_correction.proofs.ListTurns.{turn-on, turn-stop, list-20, list-run, list-none}
 use Rattle.sff_corrector.specs.declared.Carried.{Carried}
 use Rattle.sff_corrector.specs.declared.Carried.the-variants.{Out, Stopped}
+use Rattle.sff_corrector.specs.declared.Start.the-variants.{Known}
 use Rattle.sff_corrector.specs.Carried.{outcomeOf, Ready, Onward}
-
--- no position of a read is that large, so nothing is known by such a mark
-pub nowhere : (b : List ℕ) → Bytes b → fileTest b ≡ Accepted → Marked b (record { position = 4294967296; place = 0 })
-nowhere b y e = record {
-  known = λ h.
-      let f = fits-31 b (head-ok b e) in
-      let n : readCount b < 4294967296 = number-small 4 20 b y (omega arith) in
-      absurd (let a : ⊥ = omega (arith, h, n) in a);
-}
 
 -- what is told of a record that is refused
 module _ (buffer : List ℕ) (len : ℕ) (r : List ℕ) where
@@ -67,10 +59,13 @@ module _ (buffer : List ℕ) (len : ℕ) (r : List ℕ) where
 
       module _ (t : fileTest (take len buffer) ≡ Accepted) where
         pub stop-21 : readCount (take len buffer) ≤ position r → Refused 21 0 ≡ correctTest buffer len r
-        unfolding reasons _then_ when
-        stop-21 g = sym (test-from-21 buffer len r h q t ∙ rw (reads-counted (take len buffer), le-ltb (position r) (readCount (take len buffer)) g))
+        unfolding reasons positionAbove
+        stop-21 g =
+            let f = parse (take len buffer) in
+            let above : positionAbove (length buffer) (parseRecord r) f ≡ true = ap not (le-ltb (position r) (length (f .reads)) (rw (reads-counted (take len buffer)) g)) in
+            sym (test-from-21 buffer len r h q t ∙ row-holds 21 (positionAbove (length buffer) (parseRecord r) f) _ above)
 
-        pub reasons-are : {a : Answer} → a ≡ reasons (length buffer) r (parse (take len buffer)) → a ≡ correctTest buffer len r
+        pub reasons-are : {a : Answer} → a ≡ reasons (length buffer) (parseRecord r) (parse (take len buffer)) → a ≡ correctTest buffer len r
         reasons-are e = e ∙ sym (test-from-21 buffer len r h q t)
 
   -- what is told of one that is carried out, and what it leaves for the next
@@ -86,11 +81,11 @@ module _ (buffer : List ℕ) (len : ℕ) (r : List ℕ) where
       accepted : fileTest (corrected buffer len r) ≡ Accepted
       accepted = rw (done-front buffer len r (sym e)) at (done-accepted buffer len r (sym e) bytes z)
 
-      parsed : parse (corrected buffer len r) ≡ edited r (parse (take len buffer))
+      parsed : parse (corrected buffer len r) ≡ edited (parseRecord r) (parse (take len buffer))
       parsed = rw (done-front buffer len r (sym e)) at (done-parsed buffer len r (sym e) bytes z)
 
       below : position r < length (parse (take len buffer) .reads)
-      below = reasons-position (length buffer) r (parse (take len buffer)) (test-reasons buffer len r (sym e))
+      below = reasons-position (length buffer) (parseRecord r) (parse (take len buffer)) (test-reasons buffer len r (sym e))
 
       -- what stands before the read stays, so where it starts does
       place-same : position r < readCount (corrected buffer len r) → readPlace (take len buffer) (position r) ≡ readPlace (corrected buffer len r) (position r)
@@ -99,19 +94,19 @@ module _ (buffer : List ℕ) (len : ℕ) (r : List ℕ) where
           place-found (take len buffer) bytes (test-file buffer len r (sym e)) (position r) (rw (reads-counted (take len buffer)) at b)
           ∙ sym
           (
-          place-found (corrected buffer len r) (layout-bytes (edited r (parse (take len buffer))) (done-valid buffer len r (sym e) bytes z)) accepted (position r) h
-          ∙ rw parsed (place-kept r (parse (take len buffer)) (omega arith))
+          place-found (corrected buffer len r) (layout-bytes (edited (parseRecord r) (parse (take len buffer))) (done-valid buffer len r (sym e) bytes z)) accepted (position r) h
+          ∙ rw parsed (place-kept (parseRecord r) (parse (take len buffer)) (omega arith))
           )
 
       pub ready : {n : ℕ} {b : List ℕ} {q i : ℕ} → n ≡ length (corrected buffer len r) → b ≡ over (corrected buffer len r) len buffer → i ≡ position r
-          → q ≡ readPlace (take len buffer) i → Ready b n (record { position = i; place = q })
+          → q ≡ readPlace (take len buffer) i → Ready b n (Known (record { position = i; place = q }))
       ready {n} {b} {q} {i} m f k g =
           rw (m, f)
           (
           record {
             inside = rw (done-length buffer len r (sym e)) (done-fits buffer len r (sym e));
             accepted = done-accepted buffer len r (sym e) bytes z;
-            marked = rw (done-front buffer len r (sym e)) (record { known = λ h. g ∙ rw k (place-same (rw k at h)) });
+            start = rw (done-front buffer len r (sym e)) (record { known = λ h. g ∙ rw k (place-same (rw k at h)) });
           }
           )
 
@@ -125,10 +120,10 @@ pub record Going (n : ℕ) (b₀ : List ℕ) (len₀ : ℕ) (l b : List ℕ) (k 
   pub low : k ≤ n
   pub whole : 96 * n ≤ length l
   pub same : length b ≡ length b₀
-  pub ready : Ready b len m
+  pub ready : Ready b len (Known m)
   pub is : turns (n - 1) 1 b₀ len₀ l ≡ turns (n - k) k b len l
 
-pub going-start : (n : ℕ) (b : List ℕ) (len : ℕ) (l : List ℕ) (m : Mark) → 1 ≤ n → 96 * n ≤ length l → Ready b len m → Going n b len l b 1 len m
+pub going-start : (n : ℕ) (b : List ℕ) (len : ℕ) (l : List ℕ) (m : Mark) → 1 ≤ n → 96 * n ≤ length l → Ready b len (Known m) → Going n b len l b 1 len m
 going-start n b len l m h w s = record { low = h; whole = w; same = refl; ready = s; is = refl }
 
 -- what a run told so far

@@ -4,19 +4,25 @@ ghost use Prim.Native.Nat.{_+_, _-_, _*_, _≤_, _<_};
 ghost use lib.ListN.{length};
 ghost use Rattle.octets.specs.Parts.{part};
 ghost use Rattle.answers.specs.declared.Answer.the-variants.{Accepted};
+ghost use Rattle.sff_format.specs.HeaderTest.{readCount};
+ghost use Rattle.sff_format.specs.FileTest.{fileTest};
+ghost use Rattle.sff_format.specs.Places.{readPlace};
 ghost use Rattle.sff_correction.specs.Record.{recordTest};
 ghost use Rattle.sff_correction.specs.Correct.{correctOutcome, correctBuffer};
 ghost use Rattle.sff_correction.specs.ListRun.{turns, runList};
-ghost use Rattle.sff_corrector.specs.Carried.{outcomeOf, Ready, Onward};
+ghost use Rattle.sff_corrector.specs.declared.Start.the-variants.{Known};
+ghost use Rattle.sff_corrector.specs.Carried.{outcomeOf, StartIn, Ready, Onward};
 use answers::Answer;
 use octets::inner::get32;
 use sff::file_test;
 use sff_correction::ListOutcome;
 use sff_edit::inner::apply;
 use sff_find::inner::Mark;
+use sff_find::inner::find;
 use sff_find::inner::find_on;
 use sff_format::Outcome;
 use sff_reasons::inner::reason;
+use sff_record::inner::record_fields;
 use sff_record::record_test;
 
 // What came of a record: the file's length afterwards, with the place of its read, or the refusal.
@@ -25,8 +31,27 @@ enum Carried {
     Stopped(u8, usize),
 }
 
-// 21 and what comes after it: a well-formed record on an accepted file. The walk to its read goes on from the one that is marked.
-fn carry_out(buffer: &mut [u8], len: usize, record: &[u8], from: Mark) -> Carried
+// Where the walk to a read starts: at the header's end, or at a read whose place is known.
+enum Start {
+    Header,
+    Known(Mark),
+}
+
+// Where the read at a position of an accepted file starts.
+fn find_from(s: &[u8], from: Start, position: usize) -> usize
+    requires { ⌜ fileTest (now s) ≡ Accepted ⌝ }
+    requires { ⌜ position < readCount (now s) ⌝ }
+    requires { ⌜ StartIn (now s) from ⌝ }
+    ensures { λ r. ⌜ r ≡ readPlace (now (s .entry)) position ⌝ }
+{
+    match from {
+        Start::Header => find(s, position),
+        Start::Known(mark) => find_on(s, mark, position),
+    }
+}
+
+// 21 and what comes after it: a well-formed record on an accepted file.
+fn carry_out(buffer: &mut [u8], len: usize, record: &[u8], from: Start) -> Carried
     requires { ⌜ Ready (now buffer) len from ⌝ }
     requires { ⌜ recordTest (now «record») ≡ Accepted ⌝ }
     ensures { λ v. ⌜ outcomeOf len v ≡ correctOutcome (now (buffer .entry)) len (now («record» .entry)) ⌝ }
@@ -34,16 +59,17 @@ fn carry_out(buffer: &mut [u8], len: usize, record: &[u8], from: Mark) -> Carrie
     ensures { λ v. ⌜ Onward (now (buffer .exit)) v ⌝ }
 {
     let room = buffer.len();
-    let position = get32(record, 4);
+    let fields = record_fields(record);
+    let position = fields.position;
     if position >= get32(&buffer[..len], 20) {
         return Carried::Stopped(21, 0);
     }
-    let place = find_on(&buffer[..len], from, position);
-    let answer = reason(&buffer[..len], room, place, record);
+    let place = find_from(&buffer[..len], from, position);
+    let answer = reason(&buffer[..len], room, place, fields, record);
     if let Answer::Refused(number, at) = answer {
         return Carried::Stopped(number, at);
     }
-    let length = apply(buffer, len, place, record);
+    let length = apply(buffer, len, place, fields, record);
     Carried::Out(length, Mark { position, place })
 }
 
@@ -62,17 +88,12 @@ fn carry_first(buffer: &mut [u8], len: usize, record: &[u8]) -> Carried
     if let Answer::Refused(number, at) = file_test(&buffer[..len]) {
         return Carried::Stopped(number, at);
     }
-    // No file has a read at this position: the walk starts at the header's end.
-    let nowhere = Mark {
-        position: 4294967296,
-        place: 0,
-    };
-    carry_out(buffer, len, record, nowhere)
+    carry_out(buffer, len, record, Start::Header)
 }
 
 // A further record of a list, which stands in it at `at`: the record before it has left an accepted file.
 fn carry_next(buffer: &mut [u8], len: usize, list: &[u8], at: usize, from: Mark) -> Carried
-    requires { ⌜ Ready (now buffer) len from ⌝ }
+    requires { ⌜ Ready (now buffer) len (Known from) ⌝ }
     requires { ⌜ at + 96 ≤ length (now list) ⌝ }
     ensures { λ v. ⌜ outcomeOf len v ≡ correctOutcome (now (buffer .entry)) len (part at 96 (now (list .entry))) ⌝ }
     ensures { λ v. ⌜ now (buffer .exit) ≡ correctBuffer (now (buffer .entry)) len (part at 96 (now (list .entry))) ⌝ }
@@ -82,12 +103,12 @@ fn carry_next(buffer: &mut [u8], len: usize, list: &[u8], at: usize, from: Mark)
     if let Answer::Refused(number, place) = record_test(&list[at..end]) {
         return Carried::Stopped(number, place);
     }
-    carry_out(buffer, len, &list[at..end], from)
+    carry_out(buffer, len, &list[at..end], Start::Known(from))
 }
 
 // The n records of a list from the second on, where the first was carried out.
 fn run(buffer: &mut [u8], len: usize, list: &[u8], n: usize, first: Mark) -> ListOutcome
-    requires { ⌜ Ready (now buffer) len first ⌝ }
+    requires { ⌜ Ready (now buffer) len (Known first) ⌝ }
     requires { ⌜ (1 ≤ n) × (96 * n ≤ length (now list)) ⌝ }
     ensures { λ v. ⌜ v ≡ turns (n - 1) 1 (now (buffer .entry)) len (now (list .entry)) .outcome ⌝ }
     ensures { λ _. ⌜ now (buffer .exit) ≡ turns (n - 1) 1 (now (buffer .entry)) len (now (list .entry)) .buffer ⌝ }

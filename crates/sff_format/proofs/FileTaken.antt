@@ -204,7 +204,7 @@ module _ (f : File) (v : Valid f) where
   unfolding layout t
   offset-in =
       let i = shape t refl .inside in
-      rw (length-insert (f .index .offset) (layoutIndex (f .index)) (layoutHeader f ++ layoutReads (f .reads)) i) (omega arith)
+      rw (length-insert (f .index .offset) (layoutIndex (f .index)) (layoutHeader f ++ layoutReads (f .reads))) (omega arith)
 
   index-back : part (indexOffset (layout f)) (indexLength (layout f)) (layout f) ≡ f .index .bytes
   unfolding layoutIndex filled

@@ -106,7 +106,7 @@ module _ (f : File) (i : ℕ) (h : i < length (f .reads)) where
   early l = record {
     front = insertAt off index-bytes ahead;
     back = after;
-    size = length-insert off index-bytes ahead l ∙ rw (place-is, le-leb off (length ahead) l);
+    size = length-insert off index-bytes ahead ∙ rw (place-is, le-leb off (length ahead) l);
     is = is-layout ∙ insert-left off ahead index-bytes (own ++ after) l;
     changed = λ r s. changed-layout r ∙ insert-left off ahead index-bytes (layoutRead r ++ after) l;
     gone = gone-layout;

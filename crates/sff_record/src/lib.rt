@@ -8,6 +8,8 @@ use octets::ByteTest;
 use octets::fails;
 use octets::wide;
 
+pub mod inner;
+
 // The n bytes from `at` on are zero.
 fn unused_test(record: &[u8], at: usize, n: usize) -> Answer
     requires { ⌜ at + n ≤ length (now «record») ⌝ }

@@ -1,0 +1,14 @@
+-- Each start has a walk of its own, and a known read's mark is what `find_on` asks for.
+use borrow.Author.Needs.{needs}
+use Rattle.sff_corrector.proofs.find_from.Statement.{statement}
+use Rattle.sff_corrector.proofs.find_from.Tie as tie
+
+find-on-requires : tie.Need-find-on-requires
+find-on-requires c κs =
+    let d = c .before .before .before .before .pre in
+    (d .0, (d .1 .0, rw (c .before .from .given .1) at (d .1 .1)))
+
+pub find-from-spec : {M : Type 1} → statement M
+find-from-spec =
+    tie.close
+    (tie.spec (λ c. search needs) (λ c κs. search needs) (λ c. search needs) find-on-requires (λ c. search needs) (λ c. search needs))

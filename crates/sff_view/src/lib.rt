@@ -52,7 +52,9 @@ pub fn qualities(view: ReadView, s: &[u8]) -> &[u8]
 pub fn insert(view: ReadView, s: &[u8]) -> &[u8]
     ensures { λ r. ⌜ now r ≡ insertIn view (bytesIn (now (s .entry)) (view .bases)) ⌝ }
 {
-    bytes_in(bases(view, s), insert_stretch(view))
+    let all = bases(view, s);
+    let part = insert_stretch(view);
+    bytes_in(all, part)
 }
 
 // 1 at the start of a stretch that does not lie in the file whole. Its end is never added up: the sum could wrap.

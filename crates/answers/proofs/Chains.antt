@@ -78,6 +78,19 @@ module _ (x y : ℕ) where
     pub told-same : u ≡ y → not (eqb x y) ≡ false
     told-same h = rw (← e) (ap not (eq-eqb u y h))
 
+  module _ {u : ℕ} (e : u ≡ y) where
+    pub under-told : x < u → ltb x y ≡ true
+    under-told h = rw (← e) (lt-ltb x u h)
+
+    pub not-under-told : u ≤ x → ltb x y ≡ false
+    not-under-told h = rw (← e) (le-ltb x u h)
+
+    pub differ-told : (x ≡ u → ⊥) → not (eqb x y) ≡ true
+    differ-told h = rw (← e) (ap not (ne-eqb x u h))
+
+    pub same-told : x ≡ u → not (eqb x y) ≡ false
+    same-told h = rw (← e) (ap not (eq-eqb x u h))
+
 -- one of two conditions, or neither
 pub or-first : (s t : Bool) → s ≡ true → (s || t) ≡ true
 or-first s t e = rw e
@@ -89,6 +102,6 @@ pub or-neither : (s t : Bool) → s ≡ false → t ≡ false → (s || t) ≡ f
 or-neither s t e f = rw e f
 
 -- For `search`, which finds in what is known what the code's tests gave: every test hands on, and where one refuses.
-pub ruleset onward = (accepts, passes, passes-last, reaches, reaches-last, le-ltb, same, told, told-not-under, told-same, or-neither)
+pub ruleset onward = (accepts, passes, passes-last, reaches, reaches-last, le-ltb, same, told, told-not-under, told-same, not-under-told, same-told, or-neither)
 
-pub ruleset refusal = (onward, refuses, holds, holds-last, stops, stops-last, lt-ltb, differ, told-under, told-differ, or-first, or-second)
+pub ruleset refusal = (onward, refuses, holds, holds-last, stops, stops-last, lt-ltb, differ, told-under, told-differ, under-told, differ-told, or-first, or-second)

@@ -102,6 +102,6 @@ pub or-neither : (s t : Bool) → s ≡ false → t ≡ false → (s || t) ≡ f
 or-neither s t e f = rw e f
 
 -- For `search`, which finds in what is known what the code's tests gave: every test hands on, and where one refuses.
-pub ruleset onward = (accepts, passes, passes-last, reaches, reaches-last, le-ltb, same, told, told-not-under, told-same, not-under-told, same-told, or-neither)
+pub ruleset onward = (accepts, passes, passes-last, reaches, reaches-last, le-ltb, ne-eqb, same, told, told-not-under, told-same, not-under-told, same-told, or-neither)
 
-pub ruleset refusal = (onward, refuses, holds, holds-last, stops, stops-last, lt-ltb, differ, told-under, told-differ, under-told, differ-told, or-first, or-second)
+pub ruleset refusal = (onward, refuses, holds, holds-last, stops, stops-last, lt-ltb, eq-eqb, differ, told-under, told-differ, under-told, differ-told, or-first, or-second)

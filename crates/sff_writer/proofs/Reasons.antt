@@ -178,8 +178,10 @@ module _ (buffer : List ℕ) (len : ℕ) (r : Read) {a : Answer} (e : a ≡ appe
     unfolding number
     counted f = let h = append-file-fits in rw (part-take 20 4 len buffer (omega arith) (omega arith)) (sym f)
 
-    pub append-done : {n : ℕ} → n ≡ number 4 20 buffer → {b b′ : List ℕ} → b ≡ putAt len (layoutRead r) buffer → b′ ≡ putAt 20 (bytesOf 4 (n + 1)) b
-        → {z : ℕ} → z ≡ up8 (16 + length (r .name)) + up8 (2 * length (r .values) + 3 * length (r .bases))
-        → (record { answer = a; length = len + z } ≡ appendOutcome buffer len r) × (b′ ≡ appendBuffer buffer len r)
-    unfolding appendOutcome appendBuffer acceptedOr
-    append-done f g h i = (rw (← e, t, i, sized), h ∙ rw (g, ← e, t, counted f))
+    pub append-outcome : {z : ℕ} → z ≡ up8 (16 + length (r .name)) + up8 (2 * length (r .values) + 3 * length (r .bases)) → record { answer = a; length = len + z } ≡ appendOutcome buffer len r
+    unfolding appendOutcome acceptedOr
+    append-outcome f = rw (← e, t, f, sized)
+
+    pub append-buffer : {n : ℕ} → n ≡ number 4 20 buffer → {b b′ : List ℕ} → b ≡ putAt len (layoutRead r) buffer → b′ ≡ putAt 20 (bytesOf 4 (n + 1)) b → b′ ≡ appendBuffer buffer len r
+    unfolding appendBuffer acceptedOr
+    append-buffer f g h = h ∙ rw (g, ← e, t, counted f)

@@ -4,7 +4,6 @@ use native.Mathlib.Omega.{arith}
 use mathlib.Core.Path.{_≡_, sym, _∙_}
 use mathlib.Core.List.{List}
 use lib.Dec.{ltb}
-use borrow.Author.Tests.{le-ltb}
 use lib.ListN.{length}
 use Rattle.octets.specs.Parts.{part, up8}
 use Rattle.octets.specs.Scans.{firstNot, isZero}
@@ -23,42 +22,27 @@ pub name-fits : (b : List ℕ) (p s L : ℕ) {a : Answer} → a ≡ nameTest b p
 unfolding nameTest
 name-fits b p s L e t = under-ok _ _ _ _ (first-ok _ _ (second-ok _ _ (sym e ∙ t)))
 
--- a read's tests over its fields as they were read
-read-by-fields : {b : List ℕ} {p : ℕ} {r : ReadFields} → FieldsAt b p r → (characters : List ℕ)
-    → readTest characters b p
-    ≡ (when (ltb (length b) (p + 16)) 1 p
-    then nameTest b p (sectionLength b p) (nameLength b p)
+-- a read's tests over its two lengths and its fields as they were read
+pub read-tested : (characters b : List ℕ) (p : ℕ) {r : ReadFields} → FieldsAt b p r → {s L : ℕ} → s ≡ sectionLength b p → L ≡ nameLength b p
+    → {x : Answer} → x ≡
+    (when (ltb (length b) (p + 16)) 1 p
+    then nameTest b p s L
     then clipTest p (r .bases) (r .«quality_left» .0) (r .«quality_right» .0) (r .«adapter_left» .0) (r .«adapter_right» .0)
-    then dataTest characters b (p + sectionLength b p) (r .bases))
+    then dataTest characters b (p + s) (r .bases))
+    → x ≡ readTest characters b p
 unfolding readTest
-read-by-fields f characters =
-    rw (f .bases-are, f .quality-left-is, f .quality-right-is, f .adapter-left-is, f .adapter-right-is)
+read-tested characters b p f e g h =
+    rw (← e, ← g, ← f .bases-are, ← f .quality-left-is, ← f .quality-right-is, ← f .adapter-left-is, ← f .adapter-right-is) h
 
--- what is answered once the name is accepted, from the two lengths s and L and the fields as they were read
-module _ {b : List ℕ} {p : ℕ} {r : ReadFields} (f : FieldsAt b p r) (characters : List ℕ) {s L : ℕ} (e : s ≡ sectionLength b p) (g : L ≡ nameLength b p)
-    (h : p + 16 ≤ length b) {a : Answer} (n : a ≡ nameTest b p s L) (t : a ≡ Accepted) where
-  named : readTest characters b p
-      ≡ (clipTest p (r .bases) (r .«quality_left» .0) (r .«quality_right» .0) (r .«adapter_left» .0) (r .«adapter_right» .0) then dataTest characters b (p + s) (r .bases))
-  unfolding _then_ when
-  named = rw (read-by-fields f characters, le-ltb (length b) (p + 16) h, ← e, ← g, ← n, t)
-
-  module _ {k : Answer} (c : k ≡ clipTest p (r .bases) (r .«quality_left» .0) (r .«quality_right» .0) (r .«adapter_left» .0) (r .«adapter_right» .0)) where
-    pub clips-stop : {i z : ℕ} → k ≡ Refused i z → k ≡ readTest characters b p
-    unfolding _then_
-    clips-stop u = sym (named ∙ rw (← c, u))
-
-    pub data-left : k ≡ Accepted → {d : Answer} → d ≡ dataTest characters b (p + s) (r .bases) → d ≡ readTest characters b p
-    unfolding _then_
-    data-left u {d} v = sym (named ∙ rw (← c, u, ← v))
-
--- a data section's tests over the flow characters as they stand in the file
-pub data-by-flows : (b : List ℕ) (F d n : ℕ) → 31 + F ≤ length b
-    → dataTest (part 31 F b) b d n
-    ≡ (when (ltb (length b) (d + up8 (2 * F + 3 * n))) 1 d
+-- a data section's tests over the flow characters as they stand in the file, and m, its padded length
+pub data-tested : (b : List ℕ) (F d n : ℕ) → 31 + F ≤ length b → {m : ℕ} → m ≡ up8 (2 * F + 3 * n)
+    → {x : Answer} → x ≡
+    (when (ltb (length b) (d + m)) 1 d
     then shifted (d + 2 * F) (basesTest (part 31 F b) (part (d + 2 * F) n b) (part (d + 2 * F + n) n b))
-    then stopped 7 (firstNot isZero (d + (2 * F + 3 * n)) (d + up8 (2 * F + 3 * n)) b) (d + up8 (2 * F + 3 * n)))
+    then stopped 7 (firstNot isZero (d + (2 * F + 3 * n)) (d + m) b) (d + m))
+    → x ≡ dataTest (part 31 F b) b d n
 unfolding dataTest
-data-by-flows b F d n h = rw (length-part 31 F b h)
+data-tested b F d n h e f = rw (length-part 31 F b h, ← e) f
 
 -- increments and bases tested as parts of the file
 module _ (b : List ℕ) (F at n : ℕ) {a : Answer}

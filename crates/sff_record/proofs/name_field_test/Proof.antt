@@ -1,22 +1,25 @@
-use native.Mathlib.Omega.{arith}
-use Rattle.sff_record.proofs.Reasons.{name-empty, name-long, name-20, name-ends}
+-- The tests in their order, each by what the call before it gave.
+use Rattle.answers.proofs.Chains.{refusal, onward}
+use Rattle.sff_correction.specs.Record.{nameFieldTest}
+use Rattle.sff_record.proofs.Reasons.{stretch, zeros-after}
 use borrow.Author.Needs.{needs}
 use Rattle.sff_record.proofs.name_field_test.Statement.{statement}
 use Rattle.sff_record.proofs.name_field_test.Tie as tie
 
 pub name-field-test-spec : {M : Type 1} → statement M
+unfolding nameFieldTest
 name-field-test-spec =
     tie.close
     (tie.spec
-    (λ c. name-empty _ _ _ (omega arith))
-    (λ c. name-long _ _ _ (omega arith))
+    (λ c. search refusal)
+    (λ c. search refusal)
     (λ c. search needs)
     (λ c. search needs)
     (λ c. search needs)
     (λ c. search needs)
     (λ c κs. search needs)
-    (λ c. name-20 _ _ _ (omega arith) (omega arith) (c .before .fails .ensures) (c .if3 .taken))
+    (λ c. search (refusal, stretch))
     (λ c. search needs)
     (λ c. search needs)
     (λ c κs. search needs)
-    (λ c. name-ends _ _ _ (omega arith) (omega arith) (c .before .before .fails .ensures) (c .before .if3 .left) (c .unused-test .ensures)))
+    (λ c. search (onward, stretch, zeros-after)))

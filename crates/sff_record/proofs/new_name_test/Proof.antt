@@ -1,9 +1,14 @@
-use Rattle.sff_record.proofs.Reasons.{name-used, size-used, name-unused}
+-- The kind decides, as in the definition; the name's length is the byte that was read.
+use borrow.Author.Tests.{eq-eqb, ne-eqb}
+use Rattle.answers.proofs.Chains.{refuses, accepts}
+use Rattle.sff_correction.specs.Record.{newNameTest}
+use Rattle.sff_record.proofs.Reasons.{used, unused, name-tested}
 use borrow.Author.Needs.{needs}
 use Rattle.sff_record.proofs.new_name_test.Statement.{statement}
 use Rattle.sff_record.proofs.new_name_test.Tie as tie
 
 pub new-name-test-spec : {M : Type 1} → statement M
+unfolding newNameTest
 new-name-test-spec =
     tie.close
     (tie.spec
@@ -11,10 +16,10 @@ new-name-test-spec =
     (λ c. search needs)
     (λ c κs. search needs)
     (λ c κs. search needs)
-    (λ c. name-used _ (c .before .before .before .if1 .taken) (c .before .wide .ensures .0) (c .name-field-test .ensures))
+    (λ c. search (used, name-tested, eq-eqb))
     (λ c κs. search needs)
     (λ c. search needs)
     (λ c. search needs)
-    (λ c. size-used _ (c .before .before .before .if1 .left) (c .before .before .unused-test .ensures) (c .enum-told2 .given .1))
+    (λ c. search (unused, refuses, ne-eqb))
     (λ c κs. search needs)
-    (λ c. name-unused _ (c .before .before .before .before .if1 .left) (c .before .before .before .unused-test .ensures) (c .before .enum-told .given .1) (c .unused-test2 .ensures)))
+    (λ c. search (unused, accepts, ne-eqb)))

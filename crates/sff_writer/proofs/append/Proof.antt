@@ -1,9 +1,10 @@
+-- An append that is not refused has room for the count and the read; the bytes and the length are what the calls gave.
 use Prim.Native.Nat.{_+_, _≤_, _<_}
 use lib.ListN.{length}
 use native.Mathlib.Omega.{arith}
 use Rattle.octets.proofs.AllBytes.{bytes-of}
 use Rattle.sff_format.specs.Writing.{readOf}
-use Rattle.sff_writer.proofs.Reasons.{append-refused, append-file-fits, append-read-fits, append-end, append-name-fits, append-counts, append-values, append-done}
+use Rattle.sff_writer.proofs.Reasons.{append-refused, append-file-fits, append-read-fits, append-end, append-name-fits, append-counts, append-values, append-outcome, append-buffer}
 use borrow.Author.Needs.{needs}
 use Rattle.sff_writer.proofs.append.Statement.{statement}
 use Rattle.sff_writer.proofs.append.Tie as tie
@@ -16,12 +17,7 @@ append-spec =
     (λ c. search needs)
     (λ c. search needs)
     (λ c. search needs)
-    (λ c.
-    let a = c .before .before .before .before .before .before .before .before .before .before .args in
-    let b = a .buffer .now in
-    let n = a .file-length in
-    let r = readOf (a .name .now) (a .clips) (a .values .now) (a .increments .now) (a .bases .now) (a .qualities .now) in
-    append-refused b n r (c .before .before .append-test .ensures) (c .enum-told2 .given .1))
+    (λ c. append-refused _ _ _ (search) (c .enum-told2 .given .1))
     (λ c κs.
     let a = c .before .before .before .before .before .before .before .before .before .before .before .args in
     let b = a .buffer .now in
@@ -58,9 +54,4 @@ append-spec =
     let f : n + c .read-size .result ≤ length b = append-end b n r (c .before .before .before .before .before .before .before .before .before .before .before .before .before .append-test .ensures) (c .before .before .before .before .before .before .before .before .before .before .before .enum-told .given .1) (c .read-size .ensures) in
     let q : length b < 18446744073709551616 = c .before .before .before .before .before .before .before .before .before .before .before .before .before .before .before .before .before .before .before .before .before .good .0 .0 in search needs)
     (λ c. search needs)
-    (λ c.
-    let a = c .before .before .before .before .before .before .before .before .before .before .before .before .before .before .before .before .before .before .before .before .before .args in
-    let b = a .buffer .now in
-    let n = a .file-length in
-    let r = readOf (a .name .now) (a .clips) (a .values .now) (a .increments .now) (a .bases .now) (a .qualities .now) in
-    append-done b n r (c .before .before .before .before .before .before .before .before .before .before .before .before .before .append-test .ensures) (c .before .before .before .before .before .before .before .before .before .before .before .enum-told .given .1) (c .before .before .before .before .before .before .before .before .before .get32 .ensures .0) (c .before .before .before .before .before .before .before .put-read .ensures) (c .before .before .before .put32 .ensures) (c .read-size .ensures)))
+    (λ c. (search append-outcome, search append-buffer)))

@@ -1,19 +1,22 @@
-use native.Mathlib.Omega.{arith}
-use Rattle.sff_writer.proofs.Reasons.{new-5, new-6, new-26, new-ok}
+-- The tests in their order, each by what the calls before it gave.
+use Rattle.answers.proofs.Chains.{refusal, onward}
+use Rattle.sff_format.specs.Writing.{newTest}
+use Rattle.sff_writer.proofs.Reasons.{over-first, over-second, not-over, either-told, new-over, new-within}
 use borrow.Author.Needs.{needs}
 use Rattle.sff_writer.proofs.new_test.Statement.{statement}
 use Rattle.sff_writer.proofs.new_test.Tie as tie
 
 pub new-test-spec : {M : Type 1} → statement M
+unfolding newTest
 new-test-spec =
     tie.close
     (tie.spec
-    (λ c. let a = c .before .before .before .args in new-5 (a .room) (a .flows .now) (a .key .now) (omega arith))
+    (λ c. search (refusal, over-first))
     (λ c. search needs)
-    (λ c. let a = c .before .before .before .before .args in new-5 (a .room) (a .flows .now) (a .key .now) (omega arith))
+    (λ c. search (refusal, over-second))
     (λ c κs. search needs)
     (λ c κs. search needs)
-    (λ c. let a = c .before .before .before .before .before .before .before .args in new-6 (a .room) (a .flows .now) (a .key .now) (omega arith) (c .before .before .fails .ensures) (c .before .fails2 .ensures) (c .if3 .taken))
+    (λ c. search (refusal, not-over, either-told))
     (λ c κs. search needs)
-    (λ c. let a = c .before .before .before .before .before .before .before .before .before .args in new-26 (a .room) (a .flows .now) (a .key .now) (omega arith) (c .before .before .before .before .fails .ensures) (c .before .before .before .fails2 .ensures) (c .before .before .if3 .left) (c .before .header-size .ensures) (c .if4 .taken))
-    (λ c. let a = c .before .before .before .before .before .before .before .before .before .args in new-ok (a .room) (a .flows .now) (a .key .now) (omega arith) (c .before .before .before .before .fails .ensures) (c .before .before .before .fails2 .ensures) (c .before .before .if3 .left) (c .before .header-size .ensures) (c .if4 .left)))
+    (λ c. search (refusal, not-over, either-told, new-over))
+    (λ c. search (onward, not-over, either-told, new-within)))

@@ -1,11 +1,17 @@
+-- The tests in their order, each by what the call before it gave. An accepted file has the header's bytes.
 use mathlib.Core.Path.{sym, _∙_}
+use Rattle.answers.proofs.Chains.{refusal, onward}
+use Rattle.sff_format.specs.Writing.{openTest}
 use Rattle.sff_format.proofs.HeaderLaws.{fits-31}
 use Rattle.sff_format.proofs.FileLaid.{head-ok}
-use Rattle.sff_header.proofs.Fields.{offset-of, index-length-of, reads-of}
-use Rattle.sff_writer.proofs.Reasons.{open-file, open-25, open-31, open-ok}
+use Rattle.sff_writer.proofs.Reasons.{open-tested}
 use borrow.Author.Needs.{needs}
 use Rattle.sff_writer.proofs.open_test.Statement.{statement}
 use Rattle.sff_writer.proofs.open_test.Tie as tie
+
+returns : tie.Need-returns
+unfolding openTest
+returns c = search refusal
 
 pub open-test-spec : {M : Type 1} → statement M
 open-test-spec =
@@ -14,9 +20,9 @@ open-test-spec =
     (λ c κs. search needs)
     (λ c. search needs)
     (λ c. search needs)
-    (λ c. open-file _ (c .before .before .file-test .ensures) (c .enum-told2 .given .1))
+    returns
     (λ c κs. fits-31 _ (head-ok _ (sym (c .before .before .file-test .ensures) ∙ c .enum-told .given .1)))
     (λ c κs. search needs)
-    (λ c. open-25 _ (c .before .before .before .before .before .file-test .ensures) (c .before .before .before .enum-told .given .1) (rw (offset-of (c .before .before .header-fields .result) _ (c .before .before .header-fields .ensures .0), index-length-of (c .before .before .header-fields .result) _ (c .before .before .header-fields .ensures .0)) (c .before .is-declared .ensures)) (c .if1 .taken))
-    (λ c. open-31 _ (c .before .before .before .before .before .before .before .file-test .ensures) (c .before .before .before .before .before .enum-told .given .1) (rw (offset-of (c .before .before .before .before .header-fields .result) _ (c .before .before .before .before .header-fields .ensures .0), index-length-of (c .before .before .before .before .header-fields .result) _ (c .before .before .before .before .header-fields .ensures .0)) (c .before .before .before .is-declared .ensures)) (c .before .before .if1 .left) (reads-of (c .before .before .before .before .header-fields .result) _ (c .before .before .before .before .header-fields .ensures .0)) (c .if2 .taken))
-    (λ c. open-ok _ (c .before .before .before .before .before .before .before .file-test .ensures) (c .before .before .before .before .before .enum-told .given .1) (rw (offset-of (c .before .before .before .before .header-fields .result) _ (c .before .before .before .before .header-fields .ensures .0), index-length-of (c .before .before .before .before .header-fields .result) _ (c .before .before .before .before .header-fields .ensures .0)) (c .before .before .before .is-declared .ensures)) (c .before .before .if1 .left) (reads-of (c .before .before .before .before .header-fields .result) _ (c .before .before .before .before .header-fields .ensures .0)) (c .if2 .left)))
+    (λ c. search (refusal, open-tested))
+    (λ c. search (refusal, open-tested))
+    (λ c. search (onward, open-tested)))

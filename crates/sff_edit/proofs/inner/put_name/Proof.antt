@@ -1,54 +1,84 @@
--- The new name in the place of the old one, and then the two lengths before it.
-use Prim.Native.Nat.{ℕ, _+_, _-_}
-use mathlib.Core.Path.{ap, _∙_}
-use native.Mathlib.Omega.{arith}
-use Rattle.octets.specs.Parts.{up8}
-use Rattle.sff_edit.proofs.Applied.{name-put}
 use borrow.Author.Needs.{needs}
 use Rattle.sff_edit.proofs.inner.put_name.Statement.{statement}
 use Rattle.sff_edit.proofs.inner.put_name.Tie as tie
+use Rattle.sff_edit.proofs.inner.put_name.Reads as reads
+use Rattle.sff_edit.proofs.inner.put_name.Lts as lts
+use Rattle.buffers.proofs.inner.put16.Reads as put16-reads
+use Rattle.octets.proofs.inner.get16.Reads as get16-reads
+use Rattle.octets.proofs.inner.up8.Reads as up8-reads
+use Rattle.splice.proofs.inner.splice.Reads as splice-reads
 
--- after each call whose promise counts, from the last back
-abbrev section-length : tie.After-slice-known4 → tie.After-put16
-section-length c = c .before .before .before .before .before .before
+-- src/inner.rt:47:9
+get16-requires : tie.Need-get16-requires
+get16-requires c κs = search needs
 
-abbrev name : tie.After-slice-known4 → tie.After-splice
-name c = section-length c .before .before .before .before
+-- src/inner.rt:48:27
+add-up8 : tie.Need-add-up8
+add-up8 c = search needs
 
-abbrev padded : tie.After-slice-known4 → tie.After-up8
-padded c = name c .before .before
+-- src/inner.rt:48:9
+up8-requires : tie.Need-up8-requires
+up8-requires c κs = search needs
 
-abbrev old : tie.After-slice-known4 → tie.After-get16
-old c = padded c .before .before .before
+-- src/inner.rt:49:20
+add-splice : tie.Need-add-splice
+add-splice c = search needs
 
+-- src/inner.rt:49:28
+sub-splice : tie.Need-sub-splice
+sub-splice c = search needs
+
+-- src/inner.rt:49:61
+sub-splice-2 : tie.Need-sub-splice-2
+sub-splice-2 c = search needs
+
+-- src/inner.rt:49:5
+splice-requires : tie.Need-splice-requires
+splice-requires c κs = search needs
+
+-- src/inner.rt:50:5
+put16-requires : tie.Need-put16-requires
+put16-requires c κs = search needs
+
+-- src/inner.rt:51:19
+add-put16 : tie.Need-add-put16
+add-put16 c = search needs
+
+-- src/inner.rt:51:5
+put16-requires-2 : tie.Need-put16-requires-2
+put16-requires-2 c κs = search needs
+
+-- src/inner.rt:52:5
+sub-result : tie.Need-sub-result
+sub-result c = search needs
+
+-- src/inner.rt:52:5
+add-result : tie.Need-add-result
+add-result c = search needs
+
+-- src/inner.rt:40:1
+same-length : tie.Need-same-length
+same-length c = search needs
+
+-- src/inner.rt:40:1
 returns : tie.Need-returns
-returns c =
-    let a = old c .before .before .before .before .args in
-    let n = padded c .before .wide .ensures .0 in
-    let size = padded c .up8 .ensures ∙ ap (λ (k : ℕ). up8 (16 + k)) n in (
-      search needs,
-      name-put (a .p) (a .len) (a .«record» .now) (a .buffer .now) (ap (λ (k : ℕ). k - 16) (old c .get16 .ensures .0)) n (ap (λ (k : ℕ). k - 16) size)
-          (name c .splice .ensures) (omega arith) (section-length c .put16 .ensures) (c .before .before .put162 .ensures),
-    )
+returns c = (search needs, (cc))
 
 pub put-name-spec : {M : Type 1} → statement M
 put-name-spec =
     tie.close
     (tie.spec
-    (λ c κs. search needs)
-    (λ c. search needs)
-    (λ c. search needs)
-    (λ c κs. search needs)
-    (λ c. search needs)
-    (λ c κs. search needs)
-    (λ c. search needs)
-    (λ c. search needs)
-    (λ c κs. search needs)
-    (λ c. search needs)
-    (λ c κs. search needs)
-    (λ c. search needs)
-    (λ c κs. search needs)
-    (λ c. search needs)
-    (λ c. search needs)
-    (λ c. search needs)
+    get16-requires
+    add-up8
+    up8-requires
+    add-splice
+    sub-splice
+    sub-splice-2
+    splice-requires
+    put16-requires
+    add-put16
+    put16-requires-2
+    sub-result
+    add-result
+    same-length
     returns)

@@ -5,33 +5,39 @@ use mathlib.Core.Bool.{false}
 use mathlib.Core.Logic.{_⊎_, inl, inr}
 use mathlib.Core.List.{List, [], _∷_, _++_, append-assoc, append-nil}
 use native.Mathlib.Omega.{arith}
+use borrow.Author.Tests.{eq-eqb}
 use lib.ListN.{length, take, drop, length-append, length-take, length-drop, length-replicate}
-use lib.Seq.{length-take-le, take-at, drop-at}
-use Rattle.octets.specs.Parts.{putAt, filled, settled, spliced, up8}
+use lib.Seq.{length-take-le, take-take, take-at, drop-at}
+use Rattle.octets.specs.Parts.{part, putAt, filled, settled, spliced, up8}
 use Rattle.octets.specs.Numbers.{Bytes, number, bytesOf, fields}
 use Rattle.octets.proofs.Lists.{length-put, put-over, put-next, length-part}
 use Rattle.octets.proofs.Digits.{length-bytesOf}
 use Rattle.octets.proofs.Inserts.{drop-rest}
-use Rattle.octets.proofs.Stands.{length-fields, length-filled, number-take}
+use Rattle.octets.proofs.Stands.{length-fields, length-filled, field-filled, number-take}
 use Rattle.octets.proofs.Settled.{settled-front, settled-put, splice-settled}
 use Rattle.answers.specs.declared.Answer.the-variants.{Accepted}
 use Rattle.sff_format.specs.Model.{Read, noIndex, readFields, layoutReadHeader, layoutReadData, layoutRead, layoutReads, layout, withReads}
-use Rattle.sff_format.specs.HeaderTest.{readCount, flows, flowCharacters}
+use Rattle.sff_format.specs.HeaderTest.{readCount, flows, flowCharacters, headerTest}
 use Rattle.sff_format.specs.ReadTest.{sectionLength, nameLength, readTest, readEnd}
 use Rattle.sff_format.specs.FileTest.{fileTest}
 use Rattle.sff_format.specs.Parse.{parseRead, parse}
-use Rattle.sff_format.specs.Places.{replaced, place, readPlace}
+use Rattle.sff_format.specs.Places.{replaced, readPlace}
 use Rattle.sff_format.proofs.Sizes.{length-header, length-layout}
 use Rattle.sff_format.proofs.HeaderLaws.{fits-31, characters-length}
 use Rattle.sff_format.proofs.FileLaid.{head-ok, ends, reads-counted, file-laid}
 use Rattle.sff_format.proofs.ReadLaid.{fits-16, section-is, section-fits, data-fits}
-use Rattle.sff_format.proofs.Places.{read-found, place-found, read-split, read-changed, read-gone}
+use Rattle.sff_format.proofs.Places.{read-found, read-split, read-changed, read-gone}
 use Rattle.sff_format.proofs.Positions.{read-accepted}
 use Rattle.sff_correction.specs.declared.Fields.{Fields}
-use Rattle.sff_correction.specs.Correction.{clips, rename, remove, Correction, isClips}
+use Rattle.sff_correction.specs.Record.{newLength, newName, recordTest}
+use Rattle.sff_correction.specs.Correction.{rename, remove, isClips}
+use Rattle.sff_correction.specs.RecordLayout.{changeIn}
+use Rattle.sff_correction.specs.Fields.{FieldsOf, asked}
 use Rattle.sff_correction.specs.Edit.{clipped, renamed, instead, target, edited}
 use Rattle.sff_correction.specs.Reasons.{reasons}
 use Rattle.sff_correction.specs.Correct.{over}
+use Rattle.sff_correction.proofs.Records.{record-96, new-size, new-zeros}
+use Rattle.sff_correction.proofs.Asked.{kind-of, clips-asked, rename-asked, remove-asked, new-length-of, new-inside}
 use Rattle.sff_correction.proofs.Edited.{clipped-size, reasons-position, reasons-index, reasons-room}
 use Rattle.sff_correction.proofs.EditedSizes.{clips-size, name-size, edited-length}
 use Rattle.sff_edit.specs.Edits.{afresh, clippedAt, nameRoom, renamedAt, removedAt}
@@ -80,20 +86,25 @@ clips-put at x b h =
     rw (put-next at 2 ql qr b (length-bytesOf 2 _) (omega arith), put-next at 4 (ql ++ qr) al b (simp (length-append, length-bytesOf)) (omega arith))
     (put-next at 6 (ql ++ qr ++ al) ar b (simp (length-append, length-bytesOf)) (omega arith))
 
--- An accepted file in a buffer, a correction for which no reason holds, and the place of its read.
-pub record Ready (buffer : List ℕ) (len p : ℕ) (c : Correction) : Type 0 where
+-- An accepted file in a buffer, the fields of a well-formed record for which no reason holds, and the place of its read.
+pub record Ready (buffer : List ℕ) (len p : ℕ) (x : Fields) (r : List ℕ) : Type 0 where
   pub inside : len ≤ length buffer
   pub bytes : Bytes (take len buffer)
   pub accepted : fileTest (take len buffer) ≡ Accepted
-  pub place-is : p ≡ readPlace (take len buffer) (c .position)
-  pub fine : reasons (length buffer) c (parse (take len buffer)) ≡ Accepted
+  pub formed : recordTest r ≡ Accepted
+  pub fields-are : FieldsOf x r
+  pub place-is : p ≡ readPlace (take len buffer) (x .position)
+  pub fine : reasons (length buffer) (asked x r) (parse (take len buffer)) ≡ Accepted
 
-module _ {buffer : List ℕ} {len p : ℕ} {c : Correction} (s : Ready buffer len p c) where
+module _ {buffer : List ℕ} {len p : ℕ} {x : Fields} {r : List ℕ} (s : Ready buffer len p x r) where
   abbrev file : List ℕ
   file = take len buffer
 
   abbrev read : Read
-  read = target c (parse file)
+  read = target (asked x r) (parse file)
+
+  abbrev new : List ℕ
+  new = afresh (asked x r) len buffer
 
   abbrev front : List ℕ
   front = take p file
@@ -105,20 +116,26 @@ module _ {buffer : List ℕ} {len p : ℕ} {c : Correction} (s : Ready buffer le
   size : length file ≡ len
   size = length-take-le len buffer (s .inside)
 
-  counted : c .position < length (parse file .reads)
-  counted = reasons-position (length buffer) c (parse file) (s .fine)
+  counted : x .position < length (parse file .reads)
+  counted = reasons-position (length buffer) (asked x r) (parse file) (s .fine)
 
-  below : c .position < readCount file
+  below : x .position < readCount file
   below = rw (reads-counted file) at counted
 
-  head : 31 ≤ length file
-  head = fits-31 file (head-ok file (s .accepted))
-
   there : readTest (flowCharacters file) file p ≡ Accepted
-  there = rw (s .place-is) (read-accepted file (c .position) (s .accepted) below)
+  there = rw (s .place-is) (read-accepted file (x .position) (s .accepted) below)
+
+  head : headerTest file ≡ Accepted
+  head = head-ok file (s .accepted)
+
+  pub ready-record : length r ≡ 96
+  ready-record = record-96 r (s .formed)
+
+  pub ready-field : length (part 56 40 r) ≡ 40
+  ready-field = length-part 56 40 r (omega (arith, ready-record))
 
   pub ready-header : 31 ≤ len
-  ready-header = omega (arith, head, size)
+  ready-header = omega (arith, fits-31 file head, size)
 
   pub ready-start : p + 16 ≤ length file
   ready-start = fits-16 (flowCharacters file) file p there
@@ -126,29 +143,30 @@ module _ {buffer : List ℕ} {len p : ℕ} {c : Correction} (s : Ready buffer le
   pub ready-read : p + 16 ≤ len
   ready-read = omega (arith, ready-start, size)
 
+  number-is : (w q : ℕ) → q + w ≤ len → number w q file ≡ number w q buffer
+  number-is w q h = number-take w q len buffer h (s .inside)
+
   -- the read in the file
   read-is : read ≡ parseRead (flows file) file p
-  read-is = rw (s .place-is) (read-found file (s .bytes) (s .accepted) (c .position) below)
+  read-is = rw (s .place-is) (read-found file (s .bytes) (s .accepted) (x .position) below)
 
   read-size : readEnd (flows file) file p ≡ p + length (layoutRead read)
-  read-size = ends file (s .bytes) (head-ok file (s .accepted)) p there ∙ ap (λ (x : Read). p + length (layoutRead x)) (sym read-is)
+  read-size = ends file (s .bytes) head p there ∙ ap (λ (y : Read). p + length (layoutRead y)) (sym read-is)
 
   read-inside : p + length (layoutRead read) ≤ len
   unfolding readEnd
-  read-inside =
-      let f = rw (characters-length file (head-ok file (s .accepted))) at (data-fits (flowCharacters file) file p there) in
-      omega (arith, f, read-size, size)
+  read-inside = let f = rw (characters-length file head) at (data-fits (flowCharacters file) file p there) in omega (arith, f, read-size, size)
 
   front-length : length front ≡ p
   front-length = length-take-le p file (omega (arith, ready-start))
 
   split : file ≡ front ++ (layoutRead read ++ back)
-  split = rw (s .place-is) (read-split file (s .bytes) (s .accepted) (c .position) below)
+  split = rw (s .place-is) (read-split file (s .bytes) (s .accepted) (x .position) below)
 
   -- the file with another read there
-  changed : (x : Read) → (length (layoutRead x) ≡ length (layoutRead read)) ⊎ (parse file .index ≡ noIndex)
-      → layout (withReads (replaced (c .position) (x ∷ []) (parse file .reads)) (parse file)) ≡ front ++ (layoutRead x ++ back)
-  changed x o = rw (s .place-is) (read-changed file (s .bytes) (s .accepted) (c .position) below x o)
+  changed : (y : Read) → (length (layoutRead y) ≡ length (layoutRead read)) ⊎ (parse file .index ≡ noIndex)
+      → layout (withReads (replaced (x .position) (y ∷ []) (parse file .reads)) (parse file)) ≡ front ++ (layoutRead y ++ back)
+  changed y o = rw (s .place-is) (read-changed file (s .bytes) (s .accepted) (x .position) below y o)
 
   laid : length (layout (parse file)) ≡ len
   laid = ap length (file-laid file (s .bytes) (s .accepted)) ∙ size
@@ -157,21 +175,21 @@ module _ {buffer : List ℕ} {len p : ℕ} {c : Correction} (s : Ready buffer le
   held = let m : max len (length file) ≡ len = omega (arith, size) in rw m (settled-front file len buffer refl (s .inside))
 
   -- new clips
-  module _ (x : Fields) (k : c .change ≡ clips (x .«quality_left») (x .«quality_right») (x .«adapter_left») (x .«adapter_right»)) where
+  module _ (k : x .kind ≡ 1) where
     abbrev new-clips : List ℕ
     new-clips = four (x .«quality_left») (x .«quality_right») (x .«adapter_left») (x .«adapter_right»)
 
     abbrev clipped-read : Read
     clipped-read = clipped (x .«quality_left») (x .«quality_right») (x .«adapter_left») (x .«adapter_right») read
 
-    afresh-clips : afresh c len buffer ≡ front ++ (layoutRead clipped-read ++ back)
-    unfolding edited instead
-    afresh-clips = rw k (changed clipped-read (inl (clipped-size _ _ _ _ read)))
-
     clips-8 : length new-clips ≡ 8
     clips-8 = simp (length-append, length-bytesOf)
 
-    clipped-file : putAt (p + 8) new-clips file ≡ afresh c len buffer
+    afresh-clips : new ≡ front ++ (layoutRead clipped-read ++ back)
+    unfolding edited instead
+    afresh-clips = rw (clips-asked x r (s .fields-are) k) (changed clipped-read (inl (clipped-size _ _ _ _ read)))
+
+    clipped-file : putAt (p + 8) new-clips file ≡ new
     unfolding layoutReadData
     clipped-file =
         let u : List ℕ = front ++ (lengths (length (read .name)) ++ bases read) in
@@ -179,44 +197,48 @@ module _ {buffer : List ℕ} {len p : ℕ} {c : Correction} (s : Ready buffer le
         let l : length u ≡ p + 8 = simp (length-append, length-bytesOf, front-length) (omega arith) in
         let m : length new-clips ≡ length (clip-bytes read) = simp (length-append, length-bytesOf) in
         let e : file ≡ u ++ (clip-bytes read ++ w) = split ∙ pieces front read back ∙ simp append-assoc in
-        let f : u ++ (new-clips ++ w) ≡ afresh c len buffer = sym (afresh-clips ∙ pieces front clipped-read back ∙ simp append-assoc) in
+        let f : u ++ (new-clips ++ w) ≡ new = sym (afresh-clips ∙ pieces front clipped-read back ∙ simp append-assoc) in
         ap (putAt (p + 8) new-clips) e ∙ (rw l at (put-over u new-clips (clip-bytes read) w m)) ∙ f
 
-    pub clips-after : len ≡ length (afresh c len buffer)
-    clips-after = sym (clips-size c (parse file) counted _ _ _ _ k ∙ laid)
+    pub clips-done : {b : List ℕ} → b ≡ clippedAt (p + 8) x buffer → (len ≡ length new) × (b ≡ over new len buffer)
+    clips-done e = (
+      sym (clips-size (asked x r) (parse file) counted _ _ _ _ (clips-asked x r (s .fields-are) k) ∙ laid),
+      e ∙ clips-put (p + 8) x buffer (omega (arith, ready-read, s .inside)) ∙ ap (putAt (p + 8) new-clips) (sym held)
+          ∙ over-put (p + 8) new-clips file len buffer (omega (arith, clips-8, ready-start)) ∙ ap (λ (l : List ℕ). over l len buffer) clipped-file,
+    )
 
-    pub clips-done : clippedAt (p + 8) x buffer ≡ over (afresh c len buffer) len buffer
-    clips-done =
-        clips-put (p + 8) x buffer (omega (arith, ready-read, s .inside)) ∙ ap (putAt (p + 8) new-clips) (sym held)
-        ∙ over-put (p + 8) new-clips file len buffer (omega (arith, clips-8, ready-start)) ∙ ap (λ (l : List ℕ). over l len buffer) clipped-file
-
-  -- any other change: there is no index
-  module _ (i : isClips (c .change) ≡ false) where
-    none : parse file .index ≡ noIndex
-    none = reasons-index (length buffer) c (parse file) (s .fine) i
+  -- another change: there is no index
+  none : isClips (changeIn r) ≡ false → parse file .index ≡ noIndex
+  none = reasons-index (length buffer) (asked x r) (parse file) (s .fine)
 
   name-length : p + 16 + nameLength file p ≤ length file → length (parseRead (flows file) file p .name) ≡ nameLength file p
   unfolding parseRead
   name-length f = length-part (p + 16) (nameLength file p) file f
 
+  pub section-inside : p + sectionLength buffer p ≤ len
+  section-inside = omega (arith, section-fits (flowCharacters file) file p there, number-is 2 p (omega (arith, ready-read)), size)
+
   section : sectionLength buffer p ≡ up8 (16 + length (read .name))
   section =
-      let f : p + sectionLength file p ≤ length file = section-fits (flowCharacters file) file p there in
       let e : sectionLength file p ≡ up8 (16 + nameLength file p) = section-is (flowCharacters file) file p there in
-      let n : length (read .name) ≡ nameLength file p = ap (λ (x : Read). length (x .name)) read-is ∙ name-length (omega arith) in
-      sym (number-take 2 p len buffer (omega (arith, ready-read)) (s .inside)) ∙ e ∙ ap (λ (m : ℕ). up8 (16 + m)) (sym n)
+      let n = number-is 2 p (omega (arith, ready-read)) in
+      let l : length (read .name) ≡ nameLength file p = ap (λ (y : Read). length (y .name)) read-is ∙ name-length (omega (arith, section-inside, size)) in
+      omega arith
 
   pub section-least : 16 ≤ sectionLength buffer p
   section-least = omega (arith, section)
 
-  pub section-inside : p + sectionLength buffer p ≤ len
-  section-inside =
-      let f = section-fits (flowCharacters file) file p there in
-      let n = number-take 2 p len buffer (omega (arith, ready-read)) (s .inside) in
-      omega (arith, f, n, size)
-
   -- a new name
-  module _ {name : List ℕ} (k : c .change ≡ rename name) where
+  module _ (k : x .kind ≡ 2) where
+    abbrev name : List ℕ
+    name = newName r
+
+    asks : changeIn r ≡ rename name
+    asks = rename-asked x r (s .fields-are) k
+
+    name-size-is : x .«new_length» ≡ length name
+    name-size-is = new-length-of x r (s .fields-are) (s .formed)
+
     abbrev renamed-read : Read
     renamed-read = renamed name read
 
@@ -227,17 +249,20 @@ module _ {buffer : List ℕ} {len p : ℕ} {c : Correction} (s : Ready buffer le
     abbrev spliced-file : List ℕ
     spliced-file = take (p + 16) file ++ (name-padded name ++ drop (p + 16 + old-room) file)
 
-    afresh-name : afresh c len buffer ≡ front ++ (layoutRead renamed-read ++ back)
+    afresh-name : new ≡ front ++ (layoutRead renamed-read ++ back)
     unfolding edited instead
-    afresh-name = rw k (changed renamed-read (inr (none (ap isClips k))))
+    afresh-name = rw asks (changed renamed-read (inr (none (ap isClips asks))))
 
-    pub name-after : length (afresh c len buffer) + sectionLength buffer p ≡ len + up8 (16 + length name)
-    name-after = let n = name-size c (parse file) counted name k in omega (arith, n, section, laid)
+    name-after : length new + sectionLength buffer p ≡ len + up8 (16 + x .«new_length»)
+    name-after = let n = name-size (asked x r) (parse file) counted name asks in rw name-size-is (omega (arith, n, section, laid))
 
-    pub name-room : len + up8 (16 + length name) ≤ length buffer + sectionLength buffer p
-    name-room = let f = reasons-room (length buffer) c (parse file) (s .fine) in omega (arith, f, name-after)
+    pub name-room : len + up8 (16 + x .«new_length») ≤ length buffer + sectionLength buffer p
+    name-room = let f = reasons-room (length buffer) (asked x r) (parse file) (s .fine) in omega (arith, f, name-after)
 
-    renamed-file : putAt p (lengths (length name)) spliced-file ≡ afresh c len buffer
+    pub name-inside : x .«new_length» ≤ 40
+    name-inside = new-inside x r (s .fields-are) (s .formed)
+
+    renamed-file : putAt p (lengths (length name)) spliced-file ≡ new
     unfolding layoutReadData
     renamed-file =
         let ahead : List ℕ = front ++ (lengths (length (read .name)) ++ (bases read ++ clip-bytes read)) in
@@ -252,49 +277,61 @@ module _ {buffer : List ℕ} {len p : ℕ} {c : Correction} (s : Ready buffer le
         rw n at (drop-rest (p + 16) old behind file (ap (drop (p + 16)) around ∙ drop-at ahead (old ++ behind) (p + 16) l)) in
         let m : length (lengths (length name)) ≡ length (lengths (length (read .name))) = simp (length-append, length-bytesOf) in
         let e : spliced-file ≡ front ++ (lengths (length (read .name)) ++ rest) = rw (a, d) (simp append-assoc) in
-        let f : front ++ (lengths (length name) ++ rest) ≡ afresh c len buffer = sym (afresh-name ∙ pieces front renamed-read back ∙ simp append-assoc) in
+        let f : front ++ (lengths (length name) ++ rest) ≡ new = sym (afresh-name ∙ pieces front renamed-read back ∙ simp append-assoc) in
         ap (putAt p (lengths (length name))) e ∙ (rw front-length at (put-over front (lengths (length name)) (lengths (length (read .name))) rest m)) ∙ f
 
-    -- for the name in its field
-    pub name-done : {n : ℕ} (field : List ℕ) → n ≡ length name → take (nameRoom n) field ≡ name-padded name → renamedAt p len n field buffer ≡ over (afresh c len buffer) len buffer
-    name-done field e f =
+    -- the record's field holds the name with its padding
+    field-padded : take (nameRoom (x .«new_length»)) (part 56 40 r) ≡ name-padded name
+    field-padded =
+        let n = ap (λ (y : Fields). y .«new_length») (s .fields-are) in
+        let i = name-inside in
+        let w : ℕ = nameRoom (newLength r) in
+        let z = new-zeros r (s .formed) (eq-eqb _ 2 (sym (kind-of x r (s .fields-are)) ∙ k)) in
+        rw (n, new-size r (s .formed), take-take w 40 (drop 56 r) (omega arith)) (field-filled 56 (newLength r) 40 w r (omega (arith, ready-record)) z (omega arith) (omega arith))
+
+    pub name-done : {v : ℕ} {field b : List ℕ} → field ≡ part 56 40 r → v ≡ len - sectionLength buffer p + up8 (16 + x .«new_length») → b ≡ renamedAt p len (x .«new_length») field buffer
+        → (v ≡ length new) × (b ≡ over new len buffer)
+    name-done g t e =
         let h : p + 16 ≤ length spliced-file = simp (length-append, length-take) (omega (arith, ready-read, s .inside)) in
         let i : p + 16 ≤ length (over spliced-file len buffer) = omega (arith, h, over-least spliced-file len buffer) in
-        let t : spliced (p + 16) old-room len (name-padded name) buffer ≡ over spliced-file len buffer =
+        let j : spliced (p + 16) old-room len (name-padded name) buffer ≡ over spliced-file len buffer =
         splice-settled (p + 16) old-room len (name-padded name) buffer (omega (arith, section-least, section-inside)) (s .inside) in
-        let m : length (lengths (length name)) ≡ 4 = simp (length-append, length-bytesOf) in
-        rw (f, e, t, put-next p 2 _ (bytesOf 2 (length name)) (over spliced-file len buffer) (length-bytesOf 2 (up8 (16 + length name))) (omega arith))
-        (over-put p (lengths (length name)) spliced-file len buffer (omega arith) ∙ ap (λ (l : List ℕ). over l len buffer) renamed-file)
+        let m : length (lengths (length name)) ≡ 4 = simp (length-append, length-bytesOf) in (
+          omega (arith, name-after, section-inside),
+          e ∙ rw (g, field-padded, j, name-size-is, put-next p 2 _ (bytesOf 2 (length name)) (over spliced-file len buffer) (length-bytesOf 2 (up8 (16 + length name))) (omega arith))
+              (over-put p (lengths (length name)) spliced-file len buffer (omega arith) ∙ ap (λ (l : List ℕ). over l len buffer) renamed-file),
+        )
 
   -- the read left out
-  module _ (k : c .change ≡ remove) where
+  module _ (k : x .kind ≡ 1 → ⊥) (l : x .kind ≡ 2 → ⊥) where
     abbrev left : List ℕ
     left = front ++ back
 
+    gone : changeIn r ≡ remove
+    gone = remove-asked x r (s .fields-are) k l
+
     pub reads-least : 1 ≤ readCount buffer
-    reads-least = let n = number-take 4 20 len buffer (omega (arith, ready-header)) (s .inside) in omega (arith, n, below)
+    reads-least = omega (arith, number-is 4 20 (omega (arith, ready-header)), below)
 
-    fewer : length (replaced (c .position) [] (parse file .reads)) ≡ readCount buffer - 1
-    fewer =
-        let n = number-take 4 20 len buffer (omega (arith, ready-header)) (s .inside) in
-        simp (length-append, length-take, length-drop) (omega (arith, reads-counted file, n, below))
+    fewer : length (replaced (x .position) [] (parse file .reads)) ≡ readCount buffer - 1
+    fewer = simp (length-append, length-take, length-drop) (omega (arith, reads-counted file, number-is 4 20 (omega (arith, ready-header)), below))
 
-    removed-file : putAt 20 (bytesOf 4 (readCount buffer - 1)) left ≡ afresh c len buffer
+    removed-file : putAt 20 (bytesOf 4 (readCount buffer - 1)) left ≡ new
     unfolding edited instead
     removed-file =
-        let g = read-gone file (s .bytes) (s .accepted) (c .position) below (none (ap isClips k)) in
-        sym (rw k (rw (fewer, ← s .place-is) at g))
+        let g = read-gone file (s .bytes) (s .accepted) (x .position) below (none (ap isClips gone)) in
+        sym (rw gone (rw (fewer, ← s .place-is) at g))
 
-    none-after : length (afresh c len buffer) + length (layoutRead read) ≡ len
+    none-after : length new + length (layoutRead read) ≡ len
     unfolding instead layoutReads
     none-after =
-        let n : length (layoutReads (instead (c .change) read)) ≡ 0 = rw k in
-        omega (arith, edited-length c (parse file) counted, n, laid)
+        let n : length (layoutReads (instead (changeIn r) read)) ≡ 0 = rw gone in
+        omega (arith, edited-length (asked x r) (parse file) counted, n, laid)
 
-    -- for the end of the read as the code finds it
+    -- the end of the read, as the code finds it
     module _ {F : ℕ} (f : F ≡ number 2 28 buffer) {n : ℕ} (m : n ≡ readEnd F file p) where
       end-is : n ≡ p + length (layoutRead read)
-      end-is = m ∙ ap (λ (i : ℕ). readEnd i file p) (f ∙ sym (number-take 2 28 len buffer (omega (arith, ready-header)) (s .inside))) ∙ read-size
+      end-is = m ∙ ap (λ (i : ℕ). readEnd i file p) (f ∙ sym (number-is 2 28 (omega (arith, ready-header)))) ∙ read-size
 
       pub end-least : p ≤ n
       end-least = omega (arith, end-is)
@@ -302,14 +339,14 @@ module _ {buffer : List ℕ} {len p : ℕ} {c : Correction} (s : Ready buffer le
       pub end-inside : p + (n - p) ≤ len
       end-inside = omega (arith, end-is, read-inside)
 
-      pub none-done : {v : ℕ} → v ≡ len - (n - p) → (v ≡ length (afresh c len buffer)) × (removedAt p (n - p) len buffer ≡ over (afresh c len buffer) len buffer)
-      none-done e =
+      pub none-done : {v : ℕ} {b : List ℕ} → v ≡ len - (n - p) → b ≡ removedAt p (n - p) len buffer → (v ≡ length new) × (b ≡ over new len buffer)
+      none-done t e =
           let j : n - p ≡ length (layoutRead read) = omega (arith, end-is) in
           let l : length left ≡ len - length (layoutRead read) = simp (length-append, length-drop, front-length) (omega (arith, read-inside, size)) in
-          let h = length-layout (edited c (parse file)) in
-          let g = length-header (edited c (parse file)) in
-          let i : 20 + length (bytesOf 4 (readCount buffer - 1)) ≤ length left = rw length-bytesOf (omega (arith, l, none-after, g, h)) in (
+          let h = length-layout (edited (asked x r) (parse file)) in
+          let g = length-header (edited (asked x r) (parse file)) in
+          let i : 20 + length (bytesOf 4 (readCount buffer - 1)) ≤ length left = rw length-bytesOf (omega (arith, none-after)) in (
             omega (arith, none-after, j),
-            rw (j, splice-settled p (length (layoutRead read)) len [] buffer read-inside (s .inside))
-            (over-put 20 (bytesOf 4 (readCount buffer - 1)) left len buffer i ∙ ap (λ (l : List ℕ). over l len buffer) removed-file),
+            e ∙ rw (j, splice-settled p (length (layoutRead read)) len [] buffer read-inside (s .inside))
+                (over-put 20 (bytesOf 4 (readCount buffer - 1)) left len buffer i ∙ ap (λ (l : List ℕ). over l len buffer) removed-file),
           )

@@ -46,7 +46,15 @@ fn put_name(buffer: &mut [u8], len: usize, p: usize, n: usize, field: &[u8]) -> 
 {
     let old_section = get16(buffer, p);
     let new_section = up8(16 + n);
-    splice(buffer, p + 16, old_section - 16, len, field, 0, new_section - 16);
+    splice(
+        buffer,
+        p + 16,
+        old_section - 16,
+        len,
+        field,
+        0,
+        new_section - 16,
+    );
     put16(buffer, p, new_section);
     put16(buffer, p + 2, n);
     len - old_section + new_section
@@ -63,4 +71,30 @@ fn take_out(buffer: &mut [u8], len: usize, p: usize, size: usize) -> usize
     cut(buffer, p, size, len);
     put32(buffer, 20, reads - 1);
     len - size
+}
+
+// Carries out a record for which no reason holds, with these fields, on the file that fills the first `len` bytes of the buffer and whose read stands at
+// `place`. Answers the file's length afterwards.
+pub fn apply(buffer: &mut [u8], len: usize, place: usize, fields: Fields, record: &[u8]) -> usize
+    requires { ⌜ len ≤ length (now buffer) ⌝ }
+    requires { ⌜ fileTest (take len (now buffer)) ≡ Accepted ⌝ }
+    requires { ⌜ recordTest (now «record») ≡ Accepted ⌝ }
+    requires { ⌜ FieldsOf fields (now «record») ⌝ }
+    requires { ⌜ place ≡ readPlace (take len (now buffer)) (fields .position) ⌝ }
+    requires { ⌜ reasons (length (now buffer)) (asked fields (now «record»)) (parse (take len (now buffer))) ≡ Accepted ⌝ }
+    ensures { λ v. ⌜ v ≡ length (afresh (asked fields (now («record» .entry))) len (now (buffer .entry))) ⌝ }
+    ensures { λ _. ⌜ now (buffer .exit) ≡ over (afresh (asked fields (now («record» .entry))) len (now (buffer .entry))) len (now (buffer .entry)) ⌝ }
+{
+    let kind = fields.kind;
+    if kind == 1 {
+        put_clips(buffer, place + 8, fields);
+        return len;
+    }
+    if kind == 2 {
+        let field = new_name_field(record);
+        return put_name(buffer, len, place, fields.new_length, field);
+    }
+    let flows = get16(buffer, 28);
+    let end = read_end(&buffer[..len], place, flows);
+    take_out(buffer, len, place, end - place)
 }

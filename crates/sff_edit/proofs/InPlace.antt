@@ -79,12 +79,11 @@ pieces front x back =
 -- the four clips, put one after another
 clips-put : (at : ℕ) (x : Fields) (b : List ℕ) → at + 8 ≤ length b → clippedAt at x b ≡ putAt at (four (x .«quality_left») (x .«quality_right») (x .«adapter_left») (x .«adapter_right»)) b
 clips-put at x b h =
-    let ql = bytesOf 2 (x .«quality_left») in
-    let qr = bytesOf 2 (x .«quality_right») in
-    let al = bytesOf 2 (x .«adapter_left») in
-    let ar = bytesOf 2 (x .«adapter_right») in
-    rw (put-next at 2 ql qr b (length-bytesOf 2 _) (omega arith), put-next at 4 (ql ++ qr) al b (simp (length-append, length-bytesOf)) (omega arith))
-    (put-next at 6 (ql ++ qr ++ al) ar b (simp (length-append, length-bytesOf)) (omega arith))
+    let one = bytesOf 2 (x .«quality_left») in
+    let two = bytesOf 2 (x .«quality_right») in
+    let three = bytesOf 2 (x .«adapter_left») in
+    rw (put-next at 2 one two b (length-bytesOf 2 _) (omega arith), put-next at 4 (one ++ two) three b (simp (length-append, length-bytesOf)) (omega arith))
+    (put-next at 6 (one ++ two ++ three) (bytesOf 2 (x .«adapter_right»)) b (simp (length-append, length-bytesOf)) (omega arith))
 
 -- An accepted file in a buffer, the fields of a well-formed record for which no reason holds, and the place of its read.
 pub record Ready (buffer : List ℕ) (len p : ℕ) (x : Fields) (r : List ℕ) : Type 0 where
@@ -182,9 +181,6 @@ module _ {buffer : List ℕ} {len p : ℕ} {x : Fields} {r : List ℕ} (s : Read
     abbrev clipped-read : Read
     clipped-read = clipped (x .«quality_left») (x .«quality_right») (x .«adapter_left») (x .«adapter_right») read
 
-    clips-8 : length new-clips ≡ 8
-    clips-8 = simp (length-append, length-bytesOf)
-
     afresh-clips : new ≡ front ++ (layoutRead clipped-read ++ back)
     unfolding edited instead
     afresh-clips = rw (clips-asked x r (s .fields-are) k) (changed clipped-read (inl (clipped-size _ _ _ _ read)))
@@ -201,11 +197,12 @@ module _ {buffer : List ℕ} {len p : ℕ} {x : Fields} {r : List ℕ} (s : Read
         ap (putAt (p + 8) new-clips) e ∙ (rw l at (put-over u new-clips (clip-bytes read) w m)) ∙ f
 
     pub clips-done : {b : List ℕ} → b ≡ clippedAt (p + 8) x buffer → (len ≡ length new) × (b ≡ over new len buffer)
-    clips-done e = (
-      sym (clips-size (asked x r) (parse file) counted _ _ _ _ (clips-asked x r (s .fields-are) k) ∙ laid),
-      e ∙ clips-put (p + 8) x buffer (omega (arith, ready-read, s .inside)) ∙ ap (putAt (p + 8) new-clips) (sym held)
-          ∙ over-put (p + 8) new-clips file len buffer (omega (arith, clips-8, ready-start)) ∙ ap (λ (l : List ℕ). over l len buffer) clipped-file,
-    )
+    clips-done e =
+        let n : length new-clips ≡ 8 = simp (length-append, length-bytesOf) in (
+          sym (clips-size (asked x r) (parse file) counted _ _ _ _ (clips-asked x r (s .fields-are) k) ∙ laid),
+          e ∙ clips-put (p + 8) x buffer (omega (arith, ready-read, s .inside)) ∙ ap (putAt (p + 8) new-clips) (sym held)
+              ∙ over-put (p + 8) new-clips file len buffer (omega (arith, ready-start)) ∙ ap (λ (l : List ℕ). over l len buffer) clipped-file,
+        )
 
   -- another change: there is no index
   none : isClips (changeIn r) ≡ false → parse file .index ≡ noIndex
@@ -333,11 +330,8 @@ module _ {buffer : List ℕ} {len p : ℕ} {x : Fields} {r : List ℕ} (s : Read
       end-is : n ≡ p + length (layoutRead read)
       end-is = m ∙ ap (λ (i : ℕ). readEnd i file p) (f ∙ sym (number-is 2 28 (omega (arith, ready-header)))) ∙ read-size
 
-      pub end-least : p ≤ n
-      end-least = omega (arith, end-is)
-
-      pub end-inside : p + (n - p) ≤ len
-      end-inside = omega (arith, end-is, read-inside)
+      pub end-inside : (p ≤ n) × (p + (n - p) ≤ len)
+      end-inside = (omega (arith, end-is), omega (arith, end-is, read-inside))
 
       pub none-done : {v : ℕ} {b : List ℕ} → v ≡ len - (n - p) → b ≡ removedAt p (n - p) len buffer → (v ≡ length new) × (b ≡ over new len buffer)
       none-done t e =

@@ -25,11 +25,12 @@ use sff_record::inner::new_name_field;
 use splice::inner::cut;
 use splice::inner::splice;
 
-// Puts the four new clips over those at `at`.
-fn put_clips(buffer: &mut [u8], at: usize, fields: Fields)
-    requires { ⌜ at + 8 ≤ length (now buffer) ⌝ }
-    ensures { λ _. ⌜ now (buffer .exit) ≡ clippedAt at fields (now (buffer .entry)) ⌝ }
+// Gives the read at p the four new clips.
+fn put_clips(buffer: &mut [u8], p: usize, fields: Fields)
+    requires { ⌜ p + 16 ≤ length (now buffer) ⌝ }
+    ensures { λ _. ⌜ now (buffer .exit) ≡ clippedAt (p + 8) fields (now (buffer .entry)) ⌝ }
 {
+    let at = p + 8;
     put16(buffer, at, fields.quality_left);
     put16(buffer, at + 2, fields.quality_right);
     put16(buffer, at + 4, fields.adapter_left);
@@ -87,7 +88,7 @@ pub fn apply(buffer: &mut [u8], len: usize, place: usize, fields: Fields, record
 {
     let kind = fields.kind;
     if kind == 1 {
-        put_clips(buffer, place + 8, fields);
+        put_clips(buffer, place, fields);
         return len;
     }
     if kind == 2 {

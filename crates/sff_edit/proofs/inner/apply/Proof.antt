@@ -4,7 +4,7 @@ use native.Mathlib.Omega.{arith}
 use lib.ListN.{length}
 use lib.Seq.{length-take-le}
 use Rattle.octets.proofs.AllBytes.{bytes-of, bytes-take}
-use Rattle.sff_edit.proofs.InPlace.{Ready, ready-record, ready-field, ready-header, ready-start, ready-read, clips-done, section-least, section-inside, name-room, name-inside, name-done, reads-least, end-least, end-inside, none-done}
+use Rattle.sff_edit.proofs.InPlace.{Ready, ready-record, ready-field, ready-header, ready-start, ready-read, clips-done, section-least, section-inside, name-room, name-inside, name-done, reads-least, end-inside, none-done}
 use borrow.Author.Needs.{needs}
 use Rattle.sff_edit.proofs.inner.apply.Statement.{statement}
 use Rattle.sff_edit.proofs.inner.apply.Tie as tie
@@ -47,9 +47,6 @@ returns-3 c =
     let n = out .take-out .ensures in
     none-done (ready (two .before .before .before)) (two .before .if1 .left) (two .if2 .left) (flows .get16 .ensures .0) (end .read-end .ensures) (n .0) (n .1)
 
-add-put-clips : tie.Need-add-put-clips
-add-put-clips c = let s = ready (c .before .before .before) in omega (arith, ready-read s, s .inside)
-
 put-clips-requires : tie.Need-put-clips-requires
 put-clips-requires c κs = let s = ready (c .before .before .before) in omega (arith, ready-read s, s .inside)
 
@@ -78,7 +75,7 @@ sub-take-out c =
     let end = c .before in
     let flows = end .before .before in
     let two = flows .before .before in
-    end-least (ready (two .before .before .before)) (two .before .if1 .left) (two .if2 .left) (flows .get16 .ensures .0) (end .read-end .ensures)
+    end-inside (ready (two .before .before .before)) (two .before .if1 .left) (two .if2 .left) (flows .get16 .ensures .0) (end .read-end .ensures) .0
 
 take-out-requires : tie.Need-take-out-requires
 take-out-requires c κs =
@@ -88,13 +85,12 @@ take-out-requires c κs =
     let s = ready (two .before .before .before) in
     let k = two .before .if1 .left in
     let l = two .if2 .left in
-    ((omega (arith, ready-header s, s .inside), end-inside s k l (flows .get16 .ensures .0) (end .read-end .ensures), s .inside), reads-least s k l)
+    ((omega (arith, ready-header s, s .inside), end-inside s k l (flows .get16 .ensures .0) (end .read-end .ensures) .1, s .inside), reads-least s k l)
 
 pub apply-spec : {M : Type 1} → statement M
 apply-spec =
     tie.close
     (tie.spec
-    add-put-clips
     put-clips-requires
     (λ c. search needs)
     returns

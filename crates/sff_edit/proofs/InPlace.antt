@@ -1,75 +1,109 @@
 -- An edit in place leaves the file written afresh with the read changed or left out. Assumes nothing.
 use Prim.Native.Nat.{ℕ, _+_, _-_, _≤_, _<_, max}
 use mathlib.Core.Path.{_≡_, refl, sym, ap, _∙_}
-use mathlib.Core.Bool.{true, false}
-use mathlib.Core.Logic.{inl, inr}
+use mathlib.Core.Bool.{false}
+use mathlib.Core.Logic.{_⊎_, inl, inr}
 use mathlib.Core.List.{List, [], _∷_, _++_, append-assoc, append-nil}
 use native.Mathlib.Omega.{arith}
-use lib.ListN.{length, take, drop, length-append, length-take, length-drop}
-use lib.Seq.{length-take-le, take-at, drop-at}
+use borrow.Author.Tests.{eq-eqb}
+use lib.ListN.{length, take, drop, length-append, length-take, length-drop, length-replicate}
+use lib.Seq.{length-take-le, take-take, take-at, drop-at}
 use Rattle.octets.specs.Parts.{part, putAt, filled, settled, spliced, up8}
-use Rattle.octets.specs.Numbers.{Bytes, bytesOf, fields, words, wordsAt, unitBytes, unitsAt}
-use Rattle.octets.proofs.Lists.{length-put, put-over, length-part}
+use Rattle.octets.specs.Numbers.{Bytes, number, bytesOf, fields}
+use Rattle.octets.proofs.Lists.{length-put, put-over, put-next, length-part}
 use Rattle.octets.proofs.Digits.{length-bytesOf}
-use Rattle.octets.proofs.Stands.{stands-read, units-stand, length-units, length-fields, length-filled, field-filled, number-take}
+use Rattle.octets.proofs.Inserts.{drop-rest}
+use Rattle.octets.proofs.Stands.{length-fields, length-filled, field-filled, number-take}
 use Rattle.octets.proofs.Settled.{settled-front, settled-put, splice-settled}
 use Rattle.answers.specs.declared.Answer.the-variants.{Accepted}
-use Rattle.sff_format.specs.Model.{Read, noIndex, readFields, layoutReadHeader, layoutReadData, layoutRead, layout}
-use Rattle.sff_format.specs.HeaderTest.{readCount, flows, flowCharacters}
-use Rattle.sff_format.specs.ReadTest.{sectionLength, nameLength, readEnd}
+use Rattle.sff_format.specs.Model.{Read, noIndex, readFields, layoutReadHeader, layoutReadData, layoutRead, layoutReads, layout, withReads}
+use Rattle.sff_format.specs.HeaderTest.{readCount, flows, flowCharacters, headerTest}
+use Rattle.sff_format.specs.ReadTest.{sectionLength, nameLength, readTest, readEnd}
 use Rattle.sff_format.specs.FileTest.{fileTest}
 use Rattle.sff_format.specs.Parse.{parseRead, parse}
-use Rattle.sff_format.specs.Places.{replaced, place, readPlace}
-use Rattle.sff_format.proofs.Sizes.{length-header}
-use Rattle.sff_format.proofs.HeaderLaws.{fits-31}
-use Rattle.sff_format.proofs.FileLaid.{head-ok, ends, reads-counted}
-use Rattle.sff_format.proofs.ReadLaid.{fits-16, section-is, section-fits}
-use Rattle.sff_format.proofs.Places.{read-found, place-found, read-split, read-changed, read-gone}
+use Rattle.sff_format.specs.Places.{replaced, readPlace}
+use Rattle.sff_format.proofs.Sizes.{length-header, length-layout}
+use Rattle.sff_format.proofs.HeaderLaws.{fits-31, characters-length}
+use Rattle.sff_format.proofs.FileLaid.{head-ok, ends, reads-counted, file-laid}
+use Rattle.sff_format.proofs.ReadLaid.{fits-16, section-is, section-fits, data-fits}
+use Rattle.sff_format.proofs.Places.{read-found, read-split, read-changed, read-gone}
 use Rattle.sff_format.proofs.Positions.{read-accepted}
-use Rattle.sff_correction.specs.Record.{position, newLength, isClips, isRename, recordTest}
-use Rattle.sff_correction.specs.Edit.{clipped, renamed, target}
-use Rattle.sff_correction.specs.Correct.{corrected, over}
-use Rattle.sff_correction.proofs.Records.{record-96, new-most, new-size, new-zeros}
-use Rattle.sff_correction.proofs.Edited.{edited-clips, edited-name, edited-none, edited-with, clipped-size}
-use Rattle.sff_edit.specs.Edits.{clippedAt, nameRoom, renamedAt, removedAt}
+use Rattle.sff_correction.specs.declared.Fields.{Fields}
+use Rattle.sff_correction.specs.Record.{newLength, newName, recordTest}
+use Rattle.sff_correction.specs.Correction.{rename, remove, isClips}
+use Rattle.sff_correction.specs.RecordLayout.{changeIn}
+use Rattle.sff_correction.specs.Fields.{FieldsOf, asked}
+use Rattle.sff_correction.specs.Edit.{clipped, renamed, instead, target, edited}
+use Rattle.sff_correction.specs.Reasons.{reasons}
+use Rattle.sff_correction.specs.Correct.{over}
+use Rattle.sff_correction.proofs.Records.{record-96, new-size, new-zeros}
+use Rattle.sff_correction.proofs.Asked.{kind-of, clips-asked, rename-asked, remove-asked, new-length-of, new-inside}
+use Rattle.sff_correction.proofs.Edited.{clipped-size, reasons-position, reasons-index, reasons-room}
+use Rattle.sff_correction.proofs.EditedSizes.{clips-size, name-size, edited-length}
+use Rattle.sff_edit.specs.Edits.{afresh, clippedAt, nameRoom, renamedAt, removedAt}
+
+-- a write within a file that lies over another
+over-put : (at : ℕ) (xs new : List ℕ) (len : ℕ) (b : List ℕ) → at + length xs ≤ length new → putAt at xs (over new len b) ≡ over (putAt at xs new) len b
+over-put at xs new len b h =
+    settled-put at xs new (max len (length new)) b h ∙ ap (λ (n : ℕ). settled (putAt at xs new) (max len n) b) (sym (length-put at xs new h))
+
+over-least : (new : List ℕ) (len : ℕ) (b : List ℕ) → length new ≤ length (over new len b)
+unfolding settled filled
+over-least new len b = simp (length-append, length-replicate) (omega arith)
 
 -- a read's header section: two lengths, the number of bases, the clips, the name with its padding
-lengths : Read → List ℕ
-lengths x = bytesOf 2 (up8 (16 + length (x .name))) ++ bytesOf 2 (length (x .name))
+abbrev lengths : ℕ → List ℕ
+lengths n = bytesOf 2 (up8 (16 + n)) ++ bytesOf 2 n
 
-bases : Read → List ℕ
+abbrev bases : Read → List ℕ
 bases x = bytesOf 4 (length (x .bases))
 
-clips : Read → List ℕ
-clips x = words (x .quality-left ∷ x .quality-right ∷ x .adapter-left ∷ x .adapter-right ∷ [])
+abbrev four : ℕ → ℕ → ℕ → ℕ → List ℕ
+four s t u v = bytesOf 2 s ++ bytesOf 2 t ++ bytesOf 2 u ++ bytesOf 2 v
 
-name-padded : Read → List ℕ
-name-padded x = filled (nameRoom (length (x .name))) (x .name)
+abbrev clip-bytes : Read → List ℕ
+clip-bytes x = four (x .quality-left) (x .quality-right) (x .adapter-left) (x .adapter-right)
 
-padding-is : (n : ℕ) → up8 (16 + n) - (16 + n) ≡ nameRoom n - n
-padding-is n = omega arith
+abbrev name-padded : List ℕ → List ℕ
+name-padded name = filled (nameRoom (length name)) name
 
-header-split : (x : Read) → layoutReadHeader x ≡ lengths x ++ (bases x ++ (clips x ++ name-padded x))
-unfolding layoutReadHeader readFields filled fields unitBytes lengths bases clips name-padded
-header-split x =
+-- a read by these pieces, between what stands before it and what stands after
+pieces : (front : List ℕ) (x : Read) (back : List ℕ)
+    → front ++ (layoutRead x ++ back) ≡ front ++ (lengths (length (x .name)) ++ (bases x ++ (clip-bytes x ++ (name-padded (x .name) ++ (layoutReadData x ++ back)))))
+unfolding layoutRead layoutReadHeader readFields filled fields
+pieces front x back =
     let l : length (fields (readFields x) ++ x .name) ≡ 16 + length (x .name) = rw (length-append, length-fields) in
-    rw (l, padding-is (length (x .name))) (simp (append-assoc, append-nil))
+    let e : up8 (16 + length (x .name)) - (16 + length (x .name)) ≡ nameRoom (length (x .name)) - length (x .name) = omega arith in
+    rw (l, e) (simp (append-assoc, append-nil))
 
-read-pieces : (x : Read) → layoutRead x ≡ lengths x ++ (bases x ++ (clips x ++ (name-padded x ++ layoutReadData x)))
-unfolding layoutRead
-read-pieces x = rw (header-split x) (simp append-assoc)
+-- the four clips, put one after another
+clips-put : (at : ℕ) (x : Fields) (b : List ℕ) → at + 8 ≤ length b → clippedAt at x b ≡ putAt at (four (x .«quality_left») (x .«quality_right») (x .«adapter_left») (x .«adapter_right»)) b
+clips-put at x b h =
+    let one = bytesOf 2 (x .«quality_left») in
+    let two = bytesOf 2 (x .«quality_right») in
+    let three = bytesOf 2 (x .«adapter_left») in
+    rw (put-next at 2 one two b (length-bytesOf 2 _) (omega arith), put-next at 4 (one ++ two) three b (simp (length-append, length-bytesOf)) (omega arith))
+    (put-next at 6 (one ++ two ++ three) (bytesOf 2 (x .«adapter_right»)) b (simp (length-append, length-bytesOf)) (omega arith))
 
--- An accepted file in a buffer, and a well-formed record that names one of its reads.
-module _ (buffer : List ℕ) (len : ℕ) (r : List ℕ) (h : len ≤ length buffer) (y : Bytes (take len buffer)) (e : fileTest (take len buffer) ≡ Accepted)
-    (q : recordTest r ≡ Accepted) (i : position r < readCount (take len buffer)) where
+-- An accepted file in a buffer, the fields of a well-formed record for which no reason holds, and the place of its read.
+pub record Ready (buffer : List ℕ) (len p : ℕ) (x : Fields) (r : List ℕ) : Type 0 where
+  pub inside : len ≤ length buffer
+  pub bytes : Bytes (take len buffer)
+  pub accepted : fileTest (take len buffer) ≡ Accepted
+  pub formed : recordTest r ≡ Accepted
+  pub fields-are : FieldsOf x r
+  pub place-is : p ≡ readPlace (take len buffer) (x .position)
+  pub fine : reasons (length buffer) (asked x r) (parse (take len buffer)) ≡ Accepted
+
+module _ {buffer : List ℕ} {len p : ℕ} {x : Fields} {r : List ℕ} (s : Ready buffer len p x r) where
   abbrev file : List ℕ
   file = take len buffer
 
   abbrev read : Read
-  read = target r (parse file)
+  read = target (asked x r) (parse file)
 
-  abbrev p : ℕ
-  p = readPlace file (position r)
+  abbrev new : List ℕ
+  new = afresh (asked x r) len buffer
 
   abbrev front : List ℕ
   front = take p file
@@ -77,256 +111,236 @@ module _ (buffer : List ℕ) (len : ℕ) (r : List ℕ) (h : len ≤ length buff
   abbrev back : List ℕ
   back = drop (p + length (layoutRead read)) file
 
-  file-length : length file ≡ len
-  file-length = length-take-le len buffer h
+  -- what the code may read
+  size : length file ≡ len
+  size = length-take-le len buffer (s .inside)
 
-  split : file ≡ front ++ (layoutRead read ++ back)
-  split = read-split file y e (position r) i
+  counted : x .position < length (parse file .reads)
+  counted = reasons-position (length buffer) (asked x r) (parse file) (s .fine)
 
-  pub read-inside : p + length (layoutRead read) ≤ len
-  read-inside =
-      let n : length file ≡ length front + (length (layoutRead read) + length back) = ap length split ∙ rw (length-append, length-append) in
-      let f : p + 16 ≤ length file = fits-16 (flowCharacters file) file p (read-accepted file (position r) e i) in
-      let l : length front ≡ p = length-take-le p file (omega arith) in
-      omega (arith, n, l, file-length)
+  below : x .position < readCount file
+  below = rw (reads-counted file) at counted
+
+  there : readTest (flowCharacters file) file p ≡ Accepted
+  there = rw (s .place-is) (read-accepted file (x .position) (s .accepted) below)
+
+  head : headerTest file ≡ Accepted
+  head = head-ok file (s .accepted)
+
+  pub ready-record : length r ≡ 96
+  ready-record = record-96 r (s .formed)
+
+  pub ready-field : length (part 56 40 r) ≡ 40
+  ready-field = length-part 56 40 r (omega (arith, ready-record))
+
+  pub ready-header : 31 ≤ len
+  ready-header = omega (arith, fits-31 file head, size)
+
+  pub ready-start : p + 16 ≤ length file
+  ready-start = fits-16 (flowCharacters file) file p there
+
+  pub ready-read : p + 16 ≤ len
+  ready-read = omega (arith, ready-start, size)
+
+  number-is : (w q : ℕ) → q + w ≤ len → number w q file ≡ number w q buffer
+  number-is w q h = number-take w q len buffer h (s .inside)
+
+  -- the read in the file
+  read-is : read ≡ parseRead (flows file) file p
+  read-is = rw (s .place-is) (read-found file (s .bytes) (s .accepted) (x .position) below)
+
+  read-size : readEnd (flows file) file p ≡ p + length (layoutRead read)
+  read-size = ends file (s .bytes) head p there ∙ ap (λ (y : Read). p + length (layoutRead y)) (sym read-is)
+
+  read-inside : p + length (layoutRead read) ≤ len
+  unfolding readEnd
+  read-inside = let f = rw (characters-length file head) at (data-fits (flowCharacters file) file p there) in omega (arith, f, read-size, size)
 
   front-length : length front ≡ p
-  front-length = length-take-le p file (let s = read-inside in omega (arith, s, file-length))
+  front-length = length-take-le p file (omega (arith, ready-start))
 
-  pieces : file ≡ front ++ (lengths read ++ (bases read ++ (clips read ++ (name-padded read ++ (layoutReadData read ++ back)))))
-  pieces = split ∙ ap (λ (l : List ℕ). front ++ (l ++ back)) (read-pieces read) ∙ ap (λ (l : List ℕ). front ++ l) (simp append-assoc)
+  split : file ≡ front ++ (layoutRead read ++ back)
+  split = rw (s .place-is) (read-split file (s .bytes) (s .accepted) (x .position) below)
 
-  module _ (k : isClips r ≡ true) (z : Bytes r) where
-    new-clips : part 8 8 r ≡ clips (clipped r read)
-    unfolding clips unitsAt
-    new-clips =
-        let n = record-96 r q in
-        let l : length (words (wordsAt 4 8 r)) ≡ 8 = length-units 2 (wordsAt 4 8 r) in
-        stands-read 8 8 (words (wordsAt 4 8 r)) r l (units-stand 2 r z 4 8 (omega arith))
+  -- the file with another read there
+  changed : (y : Read) → (length (layoutRead y) ≡ length (layoutRead read)) ⊎ (parse file .index ≡ noIndex)
+      → layout (withReads (replaced (x .position) (y ∷ []) (parse file .reads)) (parse file)) ≡ front ++ (layoutRead y ++ back)
+  changed y o = rw (s .place-is) (read-changed file (s .bytes) (s .accepted) (x .position) below y o)
 
-    afresh-clips : corrected buffer len r ≡ front ++ (layoutRead (clipped r read) ++ back)
-    afresh-clips =
-        ap layout (edited-with r (parse file) _ (edited-clips r (parse file) k))
-        ∙ read-changed file y e (position r) i (clipped r read) (inl (clipped-size r read))
+  laid : length (layout (parse file)) ≡ len
+  laid = ap length (file-laid file (s .bytes) (s .accepted)) ∙ size
 
-    clipped-pieces : layoutRead (clipped r read) ≡ lengths read ++ (bases read ++ (part 8 8 r ++ (name-padded read ++ layoutReadData read)))
-    unfolding lengths bases name-padded layoutReadData
-    clipped-pieces = read-pieces (clipped r read) ∙ rw new-clips
+  held : over file len buffer ≡ buffer
+  held = let m : max len (length file) ≡ len = omega (arith, size) in rw m (settled-front file len buffer refl (s .inside))
 
-    clipped-file : putAt (p + 8) (part 8 8 r) file ≡ corrected buffer len r
-    unfolding lengths bases clips
+  -- new clips
+  module _ (k : x .kind ≡ 1) where
+    abbrev new-clips : List ℕ
+    new-clips = four (x .«quality_left») (x .«quality_right») (x .«adapter_left») (x .«adapter_right»)
+
+    abbrev clipped-read : Read
+    clipped-read = clipped (x .«quality_left») (x .«quality_right») (x .«adapter_left») (x .«adapter_right») read
+
+    afresh-clips : new ≡ front ++ (layoutRead clipped-read ++ back)
+    unfolding edited instead
+    afresh-clips = rw (clips-asked x r (s .fields-are) k) (changed clipped-read (inl (clipped-size _ _ _ _ read)))
+
+    clipped-file : putAt (p + 8) new-clips file ≡ new
+    unfolding layoutReadData
     clipped-file =
-        let u : List ℕ = front ++ (lengths read ++ bases read) in
-        let w : List ℕ = name-padded read ++ (layoutReadData read ++ back) in
-        let n = record-96 r q in
+        let u : List ℕ = front ++ (lengths (length (read .name)) ++ bases read) in
+        let w : List ℕ = name-padded (read .name) ++ (layoutReadData read ++ back) in
         let l : length u ≡ p + 8 = simp (length-append, length-bytesOf, front-length) (omega arith) in
-        let m : length (part 8 8 r) ≡ length (clips read) = rw (length-part 8 8 r (omega arith), length-units) in
-        let s : file ≡ u ++ (clips read ++ w) = pieces ∙ simp append-assoc in
-        let t : u ++ (part 8 8 r ++ w) ≡ corrected buffer len r = sym (afresh-clips ∙ rw clipped-pieces (simp append-assoc)) in
-        ap (putAt (p + 8) (part 8 8 r)) s ∙ (rw l at (put-over u (part 8 8 r) (clips read) w m)) ∙ t
+        let m : length new-clips ≡ length (clip-bytes read) = simp (length-append, length-bytesOf) in
+        let e : file ≡ u ++ (clip-bytes read ++ w) = split ∙ pieces front read back ∙ simp append-assoc in
+        let f : u ++ (new-clips ++ w) ≡ new = sym (afresh-clips ∙ pieces front clipped-read back ∙ simp append-assoc) in
+        ap (putAt (p + 8) new-clips) e ∙ (rw l at (put-over u new-clips (clip-bytes read) w m)) ∙ f
 
-    pub clips-length : length (corrected buffer len r) ≡ len
-    clips-length =
-        let n = record-96 r q in
-        let l : length (part 8 8 r) ≡ 8 = length-part 8 8 r (omega arith) in
-        let f : p + 16 ≤ length file = fits-16 (flowCharacters file) file p (read-accepted file (position r) e i) in
-        ap length (sym clipped-file) ∙ length-put (p + 8) (part 8 8 r) file (omega (arith, l, f)) ∙ file-length
+    pub clips-done : {b : List ℕ} → b ≡ clippedAt (p + 8) x buffer → (len ≡ length new) × (b ≡ over new len buffer)
+    clips-done e =
+        let n : length new-clips ≡ 8 = simp (length-append, length-bytesOf) in (
+          sym (clips-size (asked x r) (parse file) counted _ _ _ _ (clips-asked x r (s .fields-are) k) ∙ laid),
+          e ∙ clips-put (p + 8) x buffer (omega (arith, ready-read, s .inside)) ∙ ap (putAt (p + 8) new-clips) (sym held)
+              ∙ over-put (p + 8) new-clips file len buffer (omega (arith, ready-start)) ∙ ap (λ (l : List ℕ). over l len buffer) clipped-file,
+        )
 
-    -- new clips in place
-    pub clips-done : clippedAt p r buffer ≡ over (corrected buffer len r) len buffer
-    clips-done =
-        let n = record-96 r q in
-        let l : length (part 8 8 r) ≡ 8 = length-part 8 8 r (omega arith) in
-        let f : p + 16 ≤ length file = fits-16 (flowCharacters file) file p (read-accepted file (position r) e i) in
-        let m : max len (length (corrected buffer len r)) ≡ len = let c = clips-length in omega arith in
-        let s : settled file len buffer ≡ buffer = settled-front file len buffer refl h in
-        ap (putAt (p + 8) (part 8 8 r)) (sym s) ∙ settled-put (p + 8) (part 8 8 r) file len buffer (omega (arith, l, f))
-        ∙ ap (λ (l : List ℕ). settled l len buffer) clipped-file ∙ ap (λ (n : ℕ). settled (corrected buffer len r) n buffer) (sym m)
-
-  read-is : read ≡ parseRead (flows file) file p
-  read-is = read-found file y e (position r) i
+  -- another change: there is no index
+  none : isClips (changeIn r) ≡ false → parse file .index ≡ noIndex
+  none = reasons-index (length buffer) (asked x r) (parse file) (s .fine)
 
   name-length : p + 16 + nameLength file p ≤ length file → length (parseRead (flows file) file p .name) ≡ nameLength file p
   unfolding parseRead
   name-length f = length-part (p + 16) (nameLength file p) file f
 
-  pub section-length : sectionLength file p ≡ up8 (16 + length (read .name))
-  section-length =
-      let a = read-accepted file (position r) e i in
-      let f : p + sectionLength file p ≤ length file = section-fits (flowCharacters file) file p a in
-      let s : sectionLength file p ≡ up8 (16 + nameLength file p) = section-is (flowCharacters file) file p a in
-      let n : length (parseRead (flows file) file p .name) ≡ nameLength file p = name-length (omega arith) in
-      s ∙ ap (λ (m : ℕ). up8 (16 + m)) (sym (ap (λ (x : Read). length (x .name)) read-is ∙ n))
+  pub section-inside : p + sectionLength buffer p ≤ len
+  section-inside = omega (arith, section-fits (flowCharacters file) file p there, number-is 2 p (omega (arith, ready-read)), size)
 
-  pub read-size : readEnd (flows file) file p ≡ p + length (layoutRead read)
-  read-size = ends file y (head-ok file e) p (read-accepted file (position r) e i) ∙ ap (λ (x : Read). p + length (layoutRead x)) (sym read-is)
+  section : sectionLength buffer p ≡ up8 (16 + length (read .name))
+  section =
+      let e : sectionLength file p ≡ up8 (16 + nameLength file p) = section-is (flowCharacters file) file p there in
+      let n = number-is 2 p (omega (arith, ready-read)) in
+      let l : length (read .name) ≡ nameLength file p = ap (λ (y : Read). length (y .name)) read-is ∙ name-length (omega (arith, section-inside, size)) in
+      omega arith
 
-  module _ (k : isClips r ≡ false) (n : parse file .index ≡ noIndex) where
-    module _ (l : isRename r ≡ true) where
-      afresh-name : corrected buffer len r ≡ front ++ (layoutRead (renamed r read) ++ back)
-      afresh-name =
-          ap layout (edited-with r (parse file) _ (edited-name r (parse file) k l))
-          ∙ read-changed file y e (position r) i (renamed r read) (inr n)
+  pub section-least : 16 ≤ sectionLength buffer p
+  section-least = omega (arith, section)
 
-      -- the record's field holds the name with its padding
-      new-padded : name-padded (renamed r read) ≡ part 56 (nameRoom (newLength r)) r
-      unfolding name-padded
-      new-padded =
-          let m = new-size r q in
-          let t = new-most r q in
-          let n = record-96 r q in
-          rw m (sym (field-filled 56 (newLength r) 40 (nameRoom (newLength r)) r (omega arith) (new-zeros r q l) (omega arith) (omega arith)))
+  -- a new name
+  module _ (k : x .kind ≡ 2) where
+    abbrev name : List ℕ
+    name = newName r
 
-      new-lengths : lengths (renamed r read) ≡ bytesOf 2 (16 + nameRoom (newLength r)) ++ bytesOf 2 (newLength r)
-      unfolding lengths
-      new-lengths =
-          let m = new-size r q in
-          let t : up8 (16 + newLength r) ≡ 16 + nameRoom (newLength r) = omega arith in
-          rw m (ap (λ (n : ℕ). bytesOf 2 n ++ bytesOf 2 (newLength r)) t)
+    asks : changeIn r ≡ rename name
+    asks = rename-asked x r (s .fields-are) k
 
-      renamed-pieces : layoutRead (renamed r read)
-          ≡ bytesOf 2 (16 + nameRoom (newLength r)) ++ bytesOf 2 (newLength r) ++ (bases read ++ (clips read ++ (part 56 (nameRoom (newLength r)) r ++ layoutReadData read)))
-      unfolding bases clips layoutReadData
-      renamed-pieces = read-pieces (renamed r read) ∙ rw (new-lengths, new-padded)
+    name-size-is : x .«new_length» ≡ length name
+    name-size-is = new-length-of x r (s .fields-are) (s .formed)
 
-      abbrev new-name : List ℕ
-      new-name = part 56 (nameRoom (newLength r)) r
+    abbrev renamed-read : Read
+    renamed-read = renamed name read
 
-      abbrev new-front : List ℕ
-      new-front = bytesOf 2 (16 + nameRoom (newLength r)) ++ bytesOf 2 (newLength r)
+    abbrev old-room : ℕ
+    old-room = sectionLength buffer p - 16
 
-      -- what stands before the name, and after its padding
-      abbrev ahead : List ℕ
-      ahead = front ++ (lengths read ++ (bases read ++ clips read))
+    -- the file with the new name in the place of the old one, its lengths still the old ones
+    abbrev spliced-file : List ℕ
+    spliced-file = take (p + 16) file ++ (name-padded name ++ drop (p + 16 + old-room) file)
 
-      abbrev behind : List ℕ
-      behind = layoutReadData read ++ back
+    afresh-name : new ≡ front ++ (layoutRead renamed-read ++ back)
+    unfolding edited instead
+    afresh-name = rw asks (changed renamed-read (inr (none (ap isClips asks))))
 
-      around : file ≡ ahead ++ (name-padded read ++ behind)
-      around = pieces ∙ simp append-assoc
+    name-after : length new + sectionLength buffer p ≡ len + up8 (16 + x .«new_length»)
+    name-after = let n = name-size (asked x r) (parse file) counted name asks in rw name-size-is (omega (arith, n, section, laid))
 
-      ahead-length : length ahead ≡ p + 16
-      unfolding lengths bases clips
-      ahead-length = simp (length-append, length-bytesOf, length-units, front-length) (omega arith)
+    pub name-room : len + up8 (16 + x .«new_length») ≤ length buffer + sectionLength buffer p
+    name-room = let f = reasons-room (length buffer) (asked x r) (parse file) (s .fine) in omega (arith, f, name-after)
 
-      padded-length : length (name-padded read) ≡ nameRoom (length (read .name))
-      unfolding name-padded
-      padded-length = length-filled (nameRoom (length (read .name))) (read .name) (omega arith)
+    pub name-inside : x .«new_length» ≤ 40
+    name-inside = new-inside x r (s .fields-are) (s .formed)
 
-      old-room : sectionLength buffer p - 16 ≡ length (name-padded read)
-      old-room =
-          let s = read-inside in
-          let f : p + 16 ≤ length file = fits-16 (flowCharacters file) file p (read-accepted file (position r) e i) in
-          let n = number-take 2 p len buffer (omega (arith, f, file-length)) h in
-          let t = section-length in
-          omega (arith, n, t, padded-length)
+    renamed-file : putAt p (lengths (length name)) spliced-file ≡ new
+    unfolding layoutReadData
+    renamed-file =
+        let ahead : List ℕ = front ++ (lengths (length (read .name)) ++ (bases read ++ clip-bytes read)) in
+        let old : List ℕ = name-padded (read .name) in
+        let behind : List ℕ = layoutReadData read ++ back in
+        let rest : List ℕ = bases read ++ (clip-bytes read ++ (name-padded name ++ behind)) in
+        let l : length ahead ≡ p + 16 = simp (length-append, length-bytesOf, front-length) (omega arith) in
+        let n : length old ≡ old-room = length-filled (nameRoom (length (read .name))) (read .name) (omega arith) ∙ omega (arith, section) in
+        let around : file ≡ ahead ++ (old ++ behind) = split ∙ pieces front read back ∙ simp append-assoc in
+        let a : take (p + 16) file ≡ ahead = ap (take (p + 16)) around ∙ take-at ahead (old ++ behind) (p + 16) l in
+        let d : drop (p + 16 + old-room) file ≡ behind =
+        rw n at (drop-rest (p + 16) old behind file (ap (drop (p + 16)) around ∙ drop-at ahead (old ++ behind) (p + 16) l)) in
+        let m : length (lengths (length name)) ≡ length (lengths (length (read .name))) = simp (length-append, length-bytesOf) in
+        let e : spliced-file ≡ front ++ (lengths (length (read .name)) ++ rest) = rw (a, d) (simp append-assoc) in
+        let f : front ++ (lengths (length name) ++ rest) ≡ new = sym (afresh-name ∙ pieces front renamed-read back ∙ simp append-assoc) in
+        ap (putAt p (lengths (length name))) e ∙ (rw front-length at (put-over front (lengths (length name)) (lengths (length (read .name))) rest m)) ∙ f
 
-      new-room : length new-name ≡ nameRoom (newLength r)
-      new-room =
-          let t = new-most r q in
-          let n = record-96 r q in
-          length-part 56 (nameRoom (newLength r)) r (omega arith)
+    -- the record's field holds the name with its padding
+    field-padded : take (nameRoom (x .«new_length»)) (part 56 40 r) ≡ name-padded name
+    field-padded =
+        let n = ap (λ (y : Fields). y .«new_length») (s .fields-are) in
+        let i = name-inside in
+        let w : ℕ = nameRoom (newLength r) in
+        let z = new-zeros r (s .formed) (eq-eqb _ 2 (sym (kind-of x r (s .fields-are)) ∙ k)) in
+        rw (n, new-size r (s .formed), take-take w 40 (drop 56 r) (omega arith)) (field-filled 56 (newLength r) 40 w r (omega (arith, ready-record)) z (omega arith) (omega arith))
 
-      whole-length : p + 16 + length (name-padded read) + length behind ≡ len
-      whole-length =
-          let a = length-append ahead (name-padded read ++ behind) in
-          let c = length-append (name-padded read) behind in
-          omega (arith, a, c, ap length around, ahead-length, file-length)
+    pub name-done : {v : ℕ} {field b : List ℕ} → field ≡ part 56 40 r → v ≡ len - sectionLength buffer p + up8 (16 + x .«new_length») → b ≡ renamedAt p len (x .«new_length») field buffer
+        → (v ≡ length new) × (b ≡ over new len buffer)
+    name-done g t e =
+        let h : p + 16 ≤ length spliced-file = simp (length-append, length-take) (omega (arith, ready-read, s .inside)) in
+        let i : p + 16 ≤ length (over spliced-file len buffer) = omega (arith, h, over-least spliced-file len buffer) in
+        let j : spliced (p + 16) old-room len (name-padded name) buffer ≡ over spliced-file len buffer =
+        splice-settled (p + 16) old-room len (name-padded name) buffer (omega (arith, section-least, section-inside)) (s .inside) in
+        let m : length (lengths (length name)) ≡ 4 = simp (length-append, length-bytesOf) in (
+          omega (arith, name-after, section-inside),
+          e ∙ rw (g, field-padded, j, name-size-is, put-next p 2 _ (bytesOf 2 (length name)) (over spliced-file len buffer) (length-bytesOf 2 (up8 (16 + length name))) (omega arith))
+              (over-put p (lengths (length name)) spliced-file len buffer (omega arith) ∙ ap (λ (l : List ℕ). over l len buffer) renamed-file),
+        )
 
-      fronts : length new-front ≡ length (lengths read)
-      unfolding lengths
-      fronts = simp (length-append, length-bytesOf)
+  -- the read left out
+  module _ (k : x .kind ≡ 1 → ⊥) (l : x .kind ≡ 2 → ⊥) where
+    abbrev left : List ℕ
+    left = front ++ back
 
-      front-4 : length new-front ≡ 4
-      front-4 = simp (length-append, length-bytesOf)
+    gone : changeIn r ≡ remove
+    gone = remove-asked x r (s .fields-are) k l
 
-      -- the file with the new name in the place of the old one, its lengths still the old ones
-      moved : List ℕ
-      moved = ahead ++ (new-name ++ behind)
+    pub reads-least : 1 ≤ readCount buffer
+    reads-least = omega (arith, number-is 4 20 (omega (arith, ready-header)), below)
 
-      moved-length : length moved ≡ p + 16 + (nameRoom (newLength r) + length behind)
-      unfolding moved
-      moved-length =
-          let a = length-append ahead (new-name ++ behind) in
-          let c = length-append new-name behind in
-          omega (arith, a, c, ahead-length, new-room)
+    fewer : length (replaced (x .position) [] (parse file .reads)) ≡ readCount buffer - 1
+    fewer = simp (length-append, length-take, length-drop) (omega (arith, reads-counted file, number-is 4 20 (omega (arith, ready-header)), below))
 
-      moved-is : spliced (p + 16) (sectionLength buffer p - 16) len new-name buffer ≡ settled moved (max len (length moved)) buffer
-      unfolding moved
-      moved-is =
-          let a : take (p + 16) file ≡ ahead = ap (take (p + 16)) around ∙ take-at ahead (name-padded read ++ behind) (p + 16) ahead-length in
-          let c : length (ahead ++ name-padded read) ≡ p + 16 + length (name-padded read) = rw (length-append, ahead-length) in
-          let d : drop (p + 16 + length (name-padded read)) file ≡ behind =
-          ap (drop (p + 16 + length (name-padded read))) (around ∙ sym (append-assoc ahead (name-padded read) behind)) ∙ drop-at (ahead ++ name-padded read) behind (p + 16 + length (name-padded read)) c in
-          rw (old-room) (rw (a, d) at (splice-settled (p + 16) (length (name-padded read)) len new-name buffer (let w = whole-length in omega arith) h))
+    removed-file : putAt 20 (bytesOf 4 (readCount buffer - 1)) left ≡ new
+    unfolding edited instead
+    removed-file =
+        let g = read-gone file (s .bytes) (s .accepted) (x .position) below (none (ap isClips gone)) in
+        sym (rw gone (rw (fewer, ← s .place-is) at g))
 
-      renamed-file : putAt p new-front moved ≡ corrected buffer len r
-      unfolding moved
-      renamed-file =
-          let rest : List ℕ = bases read ++ (clips read ++ (new-name ++ behind)) in
-          let s : moved ≡ front ++ (lengths read ++ rest) = simp append-assoc in
-          let m : length new-front ≡ length (lengths read) = fronts in
-          let t : front ++ (new-front ++ rest) ≡ corrected buffer len r = sym (afresh-name ∙ rw renamed-pieces (simp append-assoc)) in
-          ap (putAt p new-front) s ∙ (rw front-length at (put-over front new-front (lengths read) rest m)) ∙ t
+    none-after : length new + length (layoutRead read) ≡ len
+    unfolding instead layoutReads
+    none-after =
+        let n : length (layoutReads (instead (changeIn r) read)) ≡ 0 = rw gone in
+        omega (arith, edited-length (asked x r) (parse file) counted, n, laid)
 
-      new-length-is : length (corrected buffer len r) ≡ length moved
-      new-length-is = ap length (sym renamed-file) ∙ length-put p new-front moved (let n = moved-length in omega (arith, n, front-4))
+    -- the end of the read, as the code finds it
+    module _ {F : ℕ} (f : F ≡ number 2 28 buffer) {n : ℕ} (m : n ≡ readEnd F file p) where
+      end-is : n ≡ p + length (layoutRead read)
+      end-is = m ∙ ap (λ (i : ℕ). readEnd i file p) (f ∙ sym (number-is 2 28 (omega (arith, ready-header)))) ∙ read-size
 
-      -- a new name in place
-      pub name-done : renamedAt p len r buffer ≡ over (corrected buffer len r) len buffer
-      unfolding renamedAt
-      name-done =
-          ap (putAt p new-front) moved-is ∙ settled-put p new-front moved (max len (length moved)) buffer (let n = moved-length in omega (arith, n, front-4))
-          ∙ ap (λ (l : List ℕ). settled l (max len (length moved)) buffer) renamed-file
-          ∙ ap (λ (n : ℕ). settled (corrected buffer len r) (max len n) buffer) (sym new-length-is)
+      pub end-inside : (p ≤ n) × (p + (n - p) ≤ len)
+      end-inside = (omega (arith, end-is), omega (arith, end-is, read-inside))
 
-      pub name-after : length (corrected buffer len r) ≡ len - (sectionLength buffer p - 16) + nameRoom (newLength r)
-      name-after = let w = whole-length in omega (arith, w, new-length-is, moved-length, old-room)
-
-    module _ (l : isRename r ≡ false) where
-      afresh-none : corrected buffer len r ≡ putAt 20 (bytesOf 4 (length (replaced (position r) [] (parse file .reads)))) (front ++ back)
-      afresh-none = ap layout (edited-with r (parse file) _ (edited-none r (parse file) k l)) ∙ read-gone file y e (position r) i n
-
-      fewer : length (replaced (position r) [] (parse file .reads)) ≡ readCount buffer - 1
-      fewer =
-          let c = reads-counted file in
-          let g : 31 ≤ length file = fits-31 file (head-ok file e) in
-          let m : readCount file ≡ readCount buffer = number-take 4 20 len buffer (omega (arith, g, file-length)) h in
-          let f : length (replaced (position r) [] (parse file .reads)) ≡ length (parse file .reads) - 1 = simp (length-append, length-take, length-drop) (omega (arith, c, i)) in
-          omega (arith, f, c, m)
-
-      left : List ℕ
-      left = front ++ back
-
-      left-is : spliced p (length (layoutRead read)) len [] buffer ≡ settled left (max len (length left)) buffer
-      unfolding left
-      left-is = splice-settled p (length (layoutRead read)) len [] buffer read-inside h
-
-      left-length : length left ≡ len - length (layoutRead read)
-      unfolding left
-      left-length = let s = read-inside in simp (length-append, length-drop, front-length) (omega (arith, s, file-length))
-
-      past-header : 31 ≤ p
-      unfolding place
-      past-header = let g = place-found file y e (position r) i in let s = length-header (parse file) in omega arith
-
-      count-inside : 20 + length (bytesOf 4 (readCount buffer - 1)) ≤ length left
-      unfolding left
-      count-inside = let s = past-header in simp (length-append, length-drop, length-bytesOf, front-length) (omega (arith, s))
-
-      removed-file : putAt 20 (bytesOf 4 (readCount buffer - 1)) left ≡ corrected buffer len r
-      unfolding left
-      removed-file = sym (afresh-none ∙ rw fewer)
-
-      -- the length of the file without the read
-      pub none-after : length (corrected buffer len r) ≡ len - length (layoutRead read)
-      none-after = ap length (sym removed-file) ∙ length-put 20 (bytesOf 4 (readCount buffer - 1)) left count-inside ∙ left-length
-
-      -- the read cut out in place
-      pub none-done : removedAt p (length (layoutRead read)) len buffer ≡ over (corrected buffer len r) len buffer
-      unfolding removedAt
-      none-done =
-          let n : length left ≡ length (corrected buffer len r) = left-length ∙ sym none-after in
-          ap (putAt 20 (bytesOf 4 (readCount buffer - 1))) left-is ∙ settled-put 20 (bytesOf 4 (readCount buffer - 1)) left (max len (length left)) buffer count-inside
-          ∙ ap (λ (l : List ℕ). settled l (max len (length left)) buffer) removed-file
-          ∙ ap (λ (m : ℕ). settled (corrected buffer len r) (max len m) buffer) n
+      pub none-done : {v : ℕ} {b : List ℕ} → v ≡ len - (n - p) → b ≡ removedAt p (n - p) len buffer → (v ≡ length new) × (b ≡ over new len buffer)
+      none-done t e =
+          let j : n - p ≡ length (layoutRead read) = omega (arith, end-is) in
+          let l : length left ≡ len - length (layoutRead read) = simp (length-append, length-drop, front-length) (omega (arith, read-inside, size)) in
+          let h = length-layout (edited (asked x r) (parse file)) in
+          let g = length-header (edited (asked x r) (parse file)) in
+          let i : 20 + length (bytesOf 4 (readCount buffer - 1)) ≤ length left = rw length-bytesOf (omega (arith, none-after)) in (
+            omega (arith, none-after, j),
+            e ∙ rw (j, splice-settled p (length (layoutRead read)) len [] buffer read-inside (s .inside))
+                (over-put 20 (bytesOf 4 (readCount buffer - 1)) left len buffer i ∙ ap (λ (l : List ℕ). over l len buffer) removed-file),
+          )

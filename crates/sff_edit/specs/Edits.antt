@@ -1,26 +1,41 @@
--- What each edit in place writes, in bytes: p is the place of the read, r the record, len the file's length in the buffer b. Assumes nothing: these are definitions.
+-- What each edit in place writes, in the order in which the code does: p is the place of the read, len the file's length in the buffer b. Assumes nothing:
+-- these are definitions.
 use Prim.Native.Nat.{ℕ, _+_, _-_}
-use mathlib.Core.List.{List, [], _++_}
-use Rattle.octets.specs.Parts.{part, putAt, spliced, up8}
+use mathlib.Core.List.{List, []}
+use lib.ListN.{take}
+use Rattle.octets.specs.Parts.{putAt, spliced, up8}
 use Rattle.octets.specs.Numbers.{bytesOf}
+use Rattle.sff_format.specs.Model.{layout}
 use Rattle.sff_format.specs.HeaderTest.{readCount}
 use Rattle.sff_format.specs.ReadTest.{sectionLength}
-use Rattle.sff_correction.specs.Record.{newLength}
+use Rattle.sff_format.specs.Parse.{parse}
+use Rattle.sff_correction.specs.declared.Fields.{Fields}
+use Rattle.sff_correction.specs.Correction.{Correction}
+use Rattle.sff_correction.specs.Edit.{edited}
 
--- the four new clips, which the record has in file order, over the old ones
-abbrev pub clippedAt : ℕ → List ℕ → List ℕ → List ℕ
-clippedAt p r b = putAt (p + 8) (part 8 8 r) b
+-- the file as a correction leaves it, written afresh
+abbrev pub afresh : Correction → ℕ → List ℕ → List ℕ
+afresh c len b = layout (edited c (parse (take len b)))
+
+-- the four new clips, in file order, over the old ones, of which the first stands at `at`
+abbrev pub clippedAt : ℕ → Fields → List ℕ → List ℕ
+clippedAt at x b =
+    putAt (at + 6) (bytesOf 2 (x .«adapter_right»))
+    (putAt (at + 4) (bytesOf 2 (x .«adapter_left»))
+    (putAt (at + 2) (bytesOf 2 (x .«quality_right»))
+    (putAt at (bytesOf 2 (x .«quality_left»)) b)))
 
 -- how many bytes a name of n bytes takes with its padding
 abbrev pub nameRoom : ℕ → ℕ
 nameRoom n = up8 (16 + n) - 16
 
--- the new name with its padding, which the record has too, in the place of the old one with its own; then the two lengths that precede it
-unfoldable pub renamedAt : ℕ → ℕ → List ℕ → List ℕ → List ℕ
-renamedAt p len r b =
-    putAt p (bytesOf 2 (16 + nameRoom (newLength r)) ++ bytesOf 2 (newLength r))
-    (spliced (p + 16) (sectionLength b p - 16) len (part 56 (nameRoom (newLength r)) r) b)
+-- a new name of n bytes with its padding, which its field has too, in the place of the old one with its own; then the two lengths that precede it
+abbrev pub renamedAt : ℕ → ℕ → ℕ → List ℕ → List ℕ → List ℕ
+renamedAt p len n field b =
+    putAt (p + 2) (bytesOf 2 n)
+    (putAt p (bytesOf 2 (up8 (16 + n)))
+    (spliced (p + 16) (sectionLength b p - 16) len (take (nameRoom n) field) b))
 
 -- the read of `size` bytes cut out, and counted no more
-unfoldable pub removedAt : ℕ → ℕ → ℕ → List ℕ → List ℕ
+abbrev pub removedAt : ℕ → ℕ → ℕ → List ℕ → List ℕ
 removedAt p size len b = putAt 20 (bytesOf 4 (readCount b - 1)) (spliced p size len [] b)

@@ -1,66 +1,108 @@
-use mathlib.Core.Path.{sym}
+-- Each kind's edit leaves the file written afresh: what it asks, and what that is, are laws of InPlace over what is known at the start.
+use mathlib.Core.Path.{sym, ap, _∙_}
 use native.Mathlib.Omega.{arith}
+use lib.ListN.{length}
 use lib.Seq.{length-take-le}
-use Rattle.octets.specs.Numbers.{Bytes}
 use Rattle.octets.proofs.AllBytes.{bytes-of, bytes-take}
-use Rattle.sff_edit.proofs.Applied.{Ready, ready-record, ready-header, ready-start, ready-read, ready-clips, section-least, section-inside, new-small, new-room, ready-name, reads-least, end-least, end-inside, ready-none}
+use Rattle.sff_edit.proofs.InPlace.{Ready, ready-record, ready-field, ready-header, ready-start, ready-read, clips-done, section-least, section-inside, name-room, name-inside, name-done, reads-least, end-inside, none-done}
 use borrow.Author.Needs.{needs}
 use Rattle.sff_edit.proofs.inner.apply.Statement.{statement}
 use Rattle.sff_edit.proofs.inner.apply.Tie as tie
 
 -- what is known at the start
-st : (c : tie.After-slice-known) → Ready (c .before .args .buffer .now) (c .before .args .len) (c .before .args .p) (c .before .args .«record» .now)
-st c =
+ready : (c : tie.After-slice-known) → let a = c .before .args in Ready (a .buffer .now) (a .len) (a .place) (a .fields) (a .«record» .now)
+ready c =
+    let a = c .before .args in
     let d = c .before .pre in
     record {
       inside = d .0;
-      bytes = bytes-take (c .before .args .len) (c .before .args .buffer .now) (bytes-of (c .before .args .buffer .now) (λ j. c .slice-known .given j .fits));
+      bytes = bytes-take (a .len) (a .buffer .now) (bytes-of (a .buffer .now) (λ j. c .slice-known .given j .fits));
       accepted = d .1 .0;
       formed = d .1 .1 .0;
-      place-is = d .1 .1 .1 .0;
-      fine = d .1 .1 .1 .1;
+      fields-are = d .1 .1 .1 .0;
+      place-is = d .1 .1 .1 .1 .0;
+      fine = d .1 .1 .1 .1 .1;
     }
 
-record-bytes : (c : tie.After-shared-slice-known) → Bytes (c .before .before .args .«record» .now)
-record-bytes c = bytes-of (c .before .before .args .«record» .now) (λ j. c .shared-slice-known .given j .fits)
+returns : tie.Need-returns
+returns c =
+    let put = c .before .before in
+    let one = put .before .before in
+    clips-done (ready (one .before .before)) (one .if1 .taken) (put .put-clips .ensures)
+
+returns-2 : tie.Need-returns-2
+returns-2 c =
+    let put = c .before .before in
+    let field = put .before .before in
+    let two = field .before in
+    let n = put .put-name .ensures in
+    name-done (ready (two .before .before .before)) (two .if2 .taken) (field .new-name-field .ensures) (n .0) (n .1)
+
+returns-3 : tie.Need-returns-3
+returns-3 c =
+    let out = c .before .before in
+    let end = out .before .before in
+    let flows = end .before .before in
+    let two = flows .before .before in
+    let n = out .take-out .ensures in
+    none-done (ready (two .before .before .before)) (two .before .if1 .left) (two .if2 .left) (flows .get16 .ensures .0) (end .read-end .ensures) (n .0) (n .1)
+
+put-clips-requires : tie.Need-put-clips-requires
+put-clips-requires c κs = let s = ready (c .before .before .before) in omega (arith, ready-read s, s .inside)
+
+new-name-field-requires : tie.Need-new-name-field-requires
+new-name-field-requires c κs = ready-record (ready (c .before .before .before))
+
+put-name-requires : tie.Need-put-name-requires
+put-name-requires c κs =
+    let field = c .before in
+    let two = field .before in
+    let s = ready (two .before .before .before) in
+    let k = two .if2 .taken in
+    ((section-least s, section-inside s, s .inside), ((ap length (field .new-name-field .ensures) ∙ ready-field s, name-inside s k), name-room s k))
+
+get16-requires : tie.Need-get16-requires
+get16-requires c κs = let s = ready (c .before .before .before .before) in omega (arith, ready-header s, s .inside)
+
+slice-aggregate-read-end : tie.Need-slice-aggregate-read-end
+slice-aggregate-read-end c = let two = c .before .before .before in sym (length-take-le _ _ (ready (two .before .before .before) .inside))
+
+read-end-requires : tie.Need-read-end-requires
+read-end-requires c κs = let two = c .before .before .before in (ready-start (ready (two .before .before .before)), c .before .get16 .ensures .1)
+
+sub-take-out : tie.Need-sub-take-out
+sub-take-out c =
+    let end = c .before in
+    let flows = end .before .before in
+    let two = flows .before .before in
+    end-inside (ready (two .before .before .before)) (two .before .if1 .left) (two .if2 .left) (flows .get16 .ensures .0) (end .read-end .ensures) .0
+
+take-out-requires : tie.Need-take-out-requires
+take-out-requires c κs =
+    let end = c .before in
+    let flows = end .before .before in
+    let two = flows .before .before in
+    let s = ready (two .before .before .before) in
+    let k = two .before .if1 .left in
+    let l = two .if2 .left in
+    ((omega (arith, ready-header s, s .inside), end-inside s k l (flows .get16 .ensures .0) (end .read-end .ensures) .1, s .inside), reads-least s k l)
 
 pub apply-spec : {M : Type 1} → statement M
 apply-spec =
     tie.close
     (tie.spec
-    (λ c. omega (arith, ready-record (st (c .before .before))))
-    (λ c κs. let s = st (c .before .before .before .before) in (omega (arith, ready-read s, s .inside), ready-record s))
+    put-clips-requires
     (λ c. search needs)
-    (λ c.
-    let d = c .before .before .before .before .before .before in
-    ready-clips (st (d .before)) (c .before .before .before .before .if1 .taken) (record-bytes d) (c .before .before .put-clips .ensures))
-    (λ c κs.
-    let s = st (c .before .before .before .before .before) in
-    let k = c .before .if2 .taken in
-    ((section-least s k, section-inside s k, s .inside), ((ready-record s, new-small s k), new-room s k)))
+    returns
+    new-name-field-requires
+    put-name-requires
     (λ c. search needs)
-    (λ c.
-    let s = st (c .before .before .before .before .before .before .before .before) in
-    let n = c .before .before .put-name .ensures in
-    ready-name s (c .before .before .before .before .if2 .taken) (n .0) (n .1))
-    (λ c κs. let s = st (c .before .before .before .before .before) in omega (arith, ready-header s, s .inside))
+    returns-2
+    get16-requires
     (λ c. search needs)
-    (λ c. sym (length-take-le _ _ (st (c .before .before .before .before .before .before .before) .inside)))
-    (λ c κs.
-    let s = st (c .before .before .before .before .before .before .before) in
-    (ready-start s, c .before .get16 .ensures .1))
-    (λ c.
-    let s = st (c .before .before .before .before .before .before .before .before) in
-    end-least s (c .before .before .before .before .before .if1 .left) (c .before .before .before .before .if2 .left) (c .before .before .get16 .ensures .0) (c .read-end .ensures))
-    (λ c κs.
-    let s = st (c .before .before .before .before .before .before .before .before .before) in
-    let k = c .before .before .before .before .before .before .if1 .left in
-    let l = c .before .before .before .before .before .if2 .left in
-    ((omega (arith, ready-header s, s .inside), end-inside s k l (c .before .before .before .get16 .ensures .0) (c .before .read-end .ensures), s .inside), reads-least s k l))
+    slice-aggregate-read-end
+    read-end-requires
+    sub-take-out
+    take-out-requires
     (λ c. search needs)
-    (λ c.
-    let s = st (c .before .before .before .before .before .before .before .before .before .before .before .before) in
-    let k = c .before .before .before .before .before .before .before .before .before .if1 .left in
-    let l = c .before .before .before .before .before .before .before .before .if2 .left in
-    let t = c .before .before .take-out .ensures in
-    ready-none s k l (c .before .before .before .before .before .before .get16 .ensures .0) (c .before .before .before .before .read-end .ensures) (t .0) (t .1)))
+    returns-3)

@@ -1,10 +1,22 @@
--- The copy promises the same bytes at the same place.
+-- The promises of the four writes, one after another.
 use borrow.Author.Needs.{needs}
 use Rattle.sff_edit.proofs.inner.put_clips.Statement.{statement}
 use Rattle.sff_edit.proofs.inner.put_clips.Tie as tie
 
 returns : tie.Need-returns
-returns c = c .before .before .copy .ensures
+returns c = cc
 
 pub put-clips-spec : {M : Type 1} → statement M
-put-clips-spec = tie.close (tie.spec (λ c. search needs) (λ c κs. search needs) (λ c. search needs) returns)
+put-clips-spec =
+    tie.close
+    (tie.spec
+    (λ c. search needs)
+    (λ c κs. search needs)
+    (λ c. search needs)
+    (λ c κs. search needs)
+    (λ c. search needs)
+    (λ c κs. search needs)
+    (λ c. search needs)
+    (λ c κs. search needs)
+    (λ c. search needs)
+    returns)

@@ -2,24 +2,32 @@
 // record and found the read: hence each `requires`.
 ghost use mathlib.Core.Path.{_≡_};
 ghost use Prim.Native.Nat.{ℕ, _+_, _≤_, _<_};
+ghost use mathlib.Core.List.{[]};
 ghost use lib.ListN.{length};
 ghost use Rattle.octets.specs.Parts.{part, same};
 ghost use Rattle.answers.specs.declared.Answer.the-variants.{Accepted};
+ghost use Rattle.sff_format.specs.HeaderTest.{readCount};
 ghost use Rattle.sff_format.specs.ReadTest.{nameLength};
+ghost use Rattle.sff_format.specs.FileTest.{fileTest};
 ghost use Rattle.sff_format.specs.Parse.{parse};
-ghost use Rattle.sff_format.specs.Places.{readPlace};
-ghost use Rattle.sff_correction.specs.Fields.{asked};
-ghost use Rattle.sff_correction.specs.Reasons.{otherName, indexPresent, clipAbove, noRoom};
+ghost use Rattle.sff_format.specs.Places.{readPlace, replaced};
+ghost use Rattle.sff_correction.specs.Record.{recordTest};
+ghost use Rattle.sff_correction.specs.Fields.{FieldsOf, asked};
+ghost use Rattle.sff_correction.specs.Reasons.{bears, otherName, indexPresent, clipAbove, nameBorne, noRoom, reasons};
 ghost use Rattle.sff_reasons.specs.Found.{Found};
 use answers::Answer;
 use octets::inner::get16;
 use octets::inner::get32;
 use octets::inner::same_part;
 use octets::inner::up8;
+use sff::inner::first_boundary;
+use sff::inner::next_boundary;
+use sff::inner::past_index;
 use sff_clips::inner::clip_test;
 use sff_correction::Fields;
 use sff_header::inner::header_fields;
 use sff_header::inner::is_declared;
+use sff_record::inner::new_name;
 use sff_record::inner::old_name;
 use sff_walk::BasePosition;
 
@@ -32,6 +40,25 @@ fn has_name(s: &[u8], p: usize, name: &[u8]) -> bool
         return false;
     }
     same_part(name, 0, s, p + 16, name.len())
+}
+
+// Whether a read has the name, but for the one at the position.
+fn bears(s: &[u8], position: usize, name: &[u8]) -> bool
+    requires { ⌜ fileTest (now s) ≡ Accepted ⌝ }
+    ensures { λ t. ⌜ t ≡ bears (now (name .entry)) (replaced position [] (parse (now (s .entry)) .reads)) ⌝ }
+{
+    let header = header_fields(s);
+    let mut at = first_boundary(s, header);
+    let mut behind = 0;
+    while behind < header.reads {
+        let start = past_index(s, header, at);
+        if (behind != position) & has_name(s, start.place, name) {
+            return true;
+        }
+        at = next_boundary(s, header, start);
+        behind += 1;
+    }
+    false
 }
 
 // 22: the read has another name.
@@ -78,6 +105,17 @@ pub fn clip_above(s: &[u8], place: usize, fields: Fields, record: &[u8]) -> bool
     false
 }
 
+// 24: a rename to a name that another read bears.
+pub fn name_borne(s: &[u8], fields: Fields, record: &[u8]) -> bool
+    requires { ⌜ Found (now s) (now «record») fields ⌝ }
+    ensures { λ t. ⌜ ((room : ℕ) → t ≡ nameBorne room (asked fields (now («record» .entry))) (parse (now (s .entry)))) ⌝ }
+{
+    if fields.kind != 2 {
+        return false;
+    }
+    bears(s, fields.position, new_name(record, fields))
+}
+
 // 26: the file with the new name does not fit into a buffer of `room` bytes, into which it fits as it is.
 pub fn no_room(s: &[u8], room: usize, place: usize, fields: Fields, record: &[u8]) -> bool
     requires { ⌜ Found (now s) (now «record») fields ⌝ }
@@ -89,4 +127,32 @@ pub fn no_room(s: &[u8], room: usize, place: usize, fields: Fields, record: &[u8
         return false;
     }
     room - s.len() + get16(s, place) < up8(16 + fields.new_length)
+}
+
+// 22 and what comes after it: the first reason against a record whose read stands at `place`, in a buffer of `room` bytes.
+pub fn reason(s: &[u8], room: usize, place: usize, fields: Fields, record: &[u8]) -> Answer
+    requires { ⌜ fileTest (now s) ≡ Accepted ⌝ }
+    requires { ⌜ recordTest (now «record») ≡ Accepted ⌝ }
+    requires { ⌜ FieldsOf fields (now «record») ⌝ }
+    requires { ⌜ fields .position < readCount (now s) ⌝ }
+    requires { ⌜ place ≡ readPlace (now s) (fields .position) ⌝ }
+    requires { ⌜ length (now s) ≤ room ⌝ }
+    ensures { λ a. ⌜ a ≡ reasons room (asked fields (now («record» .entry))) (parse (now (s .entry))) ⌝ }
+{
+    if other_name(s, place, fields, record) {
+        return Answer::Refused(22, 0);
+    }
+    if index_present(s, fields, record) {
+        return Answer::Refused(25, 0);
+    }
+    if clip_above(s, place, fields, record) {
+        return Answer::Refused(23, 0);
+    }
+    if name_borne(s, fields, record) {
+        return Answer::Refused(24, 0);
+    }
+    if no_room(s, room, place, fields, record) {
+        return Answer::Refused(26, 0);
+    }
+    Answer::Accepted
 }

@@ -1,4 +1,4 @@
--- Each reason's test by what the code reads of the file and the record's fields, and the first that holds. Assumes nothing.
+-- Each reason's test by what the code reads at the place of the read and in the record's fields. Assumes nothing.
 use Prim.Native.Nat.{ℕ, _+_, _-_, _*_, _≤_, _<_}
 use mathlib.Core.Path.{_≡_, refl, sym, ap, _∙_}
 use mathlib.Core.Bool.{Bool, true, false, not}

@@ -1,5 +1,5 @@
-// One test for each reason that a correction's read and file may give, and the first that holds. For the corrector, which has tested the file and the
-// record and found the read: hence each `requires`.
+// One test for each reason of document 01 from 22 on, and the first that holds. For the crates above, which have tested
+// the file and the record and found the read: hence each `requires`.
 ghost use mathlib.Core.Path.{_≡_};
 ghost use Prim.Native.Nat.{ℕ, _+_, _≤_, _<_};
 ghost use mathlib.Core.List.{[]};
@@ -129,7 +129,7 @@ pub fn no_room(s: &[u8], room: usize, place: usize, fields: Fields, record: &[u8
     room - s.len() + get16(s, place) < up8(16 + fields.new_length)
 }
 
-// 22 and what comes after it: the first reason against a record whose read stands at `place`, in a buffer of `room` bytes.
+// The first reason from 22 on against a record whose read stands at `place`, in a buffer of `room` bytes.
 pub fn reason(s: &[u8], room: usize, place: usize, fields: Fields, record: &[u8]) -> Answer
     requires { ⌜ fileTest (now s) ≡ Accepted ⌝ }
     requires { ⌜ recordTest (now «record») ≡ Accepted ⌝ }

@@ -1,2 +1,2 @@
-pub mod Names
-pub mod Judged
+pub mod Told
+pub mod Sought

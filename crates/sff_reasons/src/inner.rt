@@ -1,139 +1,158 @@
-// For the corrector, which has tested the file and the record and found the read: hence each `requires`.
+// One test for each reason of document 01 from 22 on, and the first that holds. For the crates above, which have tested
+// the file and the record and found the read: hence each `requires`.
 ghost use mathlib.Core.Path.{_≡_};
-ghost use mathlib.Core.Bool.{true, false};
-ghost use Prim.Native.Nat.{_+_, _≤_, _<_};
+ghost use Prim.Native.Nat.{ℕ, _+_, _≤_, _<_};
+ghost use mathlib.Core.List.{[]};
 ghost use lib.ListN.{length};
 ghost use Rattle.octets.specs.Parts.{part, same};
 ghost use Rattle.answers.specs.declared.Answer.the-variants.{Accepted};
-ghost use Rattle.sff_format.specs.Rules.{declared};
-ghost use Rattle.sff_format.specs.HeaderTest.{indexOffset, indexLength, readCount, flows};
-ghost use Rattle.sff_format.specs.ReadTest.{nameLength, baseCount, clipTest};
+ghost use Rattle.sff_format.specs.HeaderTest.{readCount};
+ghost use Rattle.sff_format.specs.ReadTest.{nameLength};
 ghost use Rattle.sff_format.specs.FileTest.{fileTest};
-ghost use Rattle.sff_format.specs.Parse.{parseReads, parse};
-ghost use Rattle.sff_format.specs.Places.{readPlace};
-ghost use Rattle.sff_header.specs.Header.{headerOf, Small};
-ghost use Rattle.sff_correction.specs.Record.{kind, position, newLength, newQualityLeft, newQualityRight, newAdapterLeft, newAdapterRight, oldName, newName, recordTest};
-ghost use Rattle.sff_correction.specs.Reasons.{bears, reasons};
-ghost use Rattle.sff_reasons.specs.Found.{Found, Plain};
+ghost use Rattle.sff_format.specs.Parse.{parse};
+ghost use Rattle.sff_format.specs.Places.{readPlace, replaced};
+ghost use Rattle.sff_correction.specs.Record.{recordTest};
+ghost use Rattle.sff_correction.specs.Fields.{FieldsOf, asked};
+ghost use Rattle.sff_correction.specs.Reasons.{bears, otherName, indexPresent, clipAbove, nameBorne, noRoom, reasons};
+ghost use Rattle.sff_reasons.specs.Found.{Found};
 use answers::Answer;
 use octets::inner::get16;
 use octets::inner::get32;
 use octets::inner::same_part;
 use octets::inner::up8;
-use octets::wide;
+use sff::inner::first_boundary;
+use sff::inner::next_boundary;
+use sff::inner::past_index;
 use sff_clips::inner::clip_test;
-use sff_header::Header;
+use sff_correction::Fields;
 use sff_header::inner::header_fields;
 use sff_header::inner::is_declared;
-use sff_read::inner::read_end;
+use sff_record::inner::new_name;
+use sff_record::inner::old_name;
 use sff_walk::BasePosition;
 
-// Whether the read at p has the name of n bytes that stands in the record at `from`.
-fn has_name(s: &[u8], p: usize, record: &[u8], from: usize, n: usize) -> bool
-    requires { ⌜ (p + 16 + nameLength (now s) p ≤ length (now s)) × (from + n ≤ length (now «record»)) ⌝ }
-    ensures { λ t. ⌜ t ≡ same (part from n (now («record» .entry))) (part (p + 16) (nameLength (now (s .entry)) p) (now (s .entry))) ⌝ }
+// Whether the read at p has the name.
+fn has_name(s: &[u8], p: usize, name: &[u8]) -> bool
+    requires { ⌜ p + 16 + nameLength (now s) p ≤ length (now s) ⌝ }
+    ensures { λ t. ⌜ t ≡ same (now (name .entry)) (part (p + 16) (nameLength (now (s .entry)) p) (now (s .entry))) ⌝ }
 {
-    if n != get16(s, p + 2) {
+    if name.len() != get16(s, p + 2) {
         return false;
     }
-    same_part(record, from, s, p + 16, n)
+    same_part(name, 0, s, p + 16, name.len())
 }
 
-// Whether one of the n reads from the boundary `from` on has the record's new name.
-fn bears_new_name(s: &[u8], values: usize, from: usize, n: usize, record: &[u8]) -> bool
-    requires { ⌜ Plain (now s) n from ⌝ }
-    requires { ⌜ (values ≡ flows (now s)) × (values < 65536) ⌝ }
-    requires { ⌜ 56 + newLength (now «record») ≤ length (now «record») ⌝ }
-    ensures { λ t. ⌜ t ≡ bears (newName (now («record» .entry))) (parseReads (now (s .entry)) n from false) ⌝ }
+// Whether a read has the name, but for the one at the position.
+fn bears(s: &[u8], position: usize, name: &[u8]) -> bool
+    requires { ⌜ fileTest (now s) ≡ Accepted ⌝ }
+    ensures { λ t. ⌜ t ≡ bears (now (name .entry)) (replaced position [] (parse (now (s .entry)) .reads)) ⌝ }
 {
-    let size = wide(record[2]);
-    let mut left = n;
-    let mut place = from;
-    while 0 < left {
-        if has_name(s, place, record, 56, size) {
+    let header = header_fields(s);
+    let mut at = first_boundary(s, header);
+    let mut behind = 0;
+    while behind < header.reads {
+        let start = past_index(s, header, at);
+        if (behind != position) & has_name(s, start.place, name) {
             return true;
         }
-        place = read_end(s, place, values);
-        left -= 1;
+        at = next_boundary(s, header, start);
+        behind += 1;
     }
     false
 }
 
-// 9's test of the record's new clips, on the read at p.
-fn new_clips_test(s: &[u8], p: usize, record: &[u8]) -> Answer
-    requires { ⌜ (p + 16 ≤ length (now s)) × (length (now «record») ≡ 96) ⌝ }
-    ensures { λ a. ⌜ a ≡ clipTest 0 (baseCount (now (s .entry)) p) (newQualityLeft (now («record» .entry))) (newQualityRight (now («record» .entry))) (newAdapterLeft (now («record» .entry))) (newAdapterRight (now («record» .entry))) ⌝ }
+// 22: the read has another name.
+pub fn other_name(s: &[u8], place: usize, fields: Fields, record: &[u8]) -> bool
+    requires { ⌜ Found (now s) (now «record») fields ⌝ }
+    requires { ⌜ place ≡ readPlace (now s) (fields .position) ⌝ }
+    ensures { λ t. ⌜ ((room : ℕ) → t ≡ otherName room (asked fields (now («record» .entry))) (parse (now (s .entry)))) ⌝ }
 {
-    clip_test(
-        0,
-        get32(s, p + 4),
-        BasePosition(get16(record, 8)),
-        BasePosition(get16(record, 10)),
-        BasePosition(get16(record, 12)),
-        BasePosition(get16(record, 14)),
-    )
+    !has_name(s, place, old_name(record, fields))
 }
 
-// 24, 26: a rename of the read at p, which has the old name, in a file with no index.
-fn rename_reason(s: &[u8], room: usize, p: usize, record: &[u8], header: Header) -> Answer
-    requires { ⌜ Found room (now s) (now «record») p ⌝ }
-    requires { ⌜ same (oldName (now «record»)) (part (p + 16) (nameLength (now s) p) (now s)) ≡ true ⌝ }
-    requires { ⌜ (header ≡ headerOf (now s)) × Small header ⌝ }
-    requires { ⌜ false ≡ declared (indexOffset (now s)) (indexLength (now s)) ⌝ }
-    requires { ⌜ kind (now «record») ≡ 2 ⌝ }
-    ensures { λ a. ⌜ a ≡ reasons room (now («record» .entry)) (parse (now (s .entry))) ⌝ }
+// 25: a rename or a removal, and the file has an index.
+pub fn index_present(s: &[u8], fields: Fields, record: &[u8]) -> bool
+    requires { ⌜ Found (now s) (now «record») fields ⌝ }
+    ensures { λ t. ⌜ ((room : ℕ) → t ≡ indexPresent room (asked fields (now («record» .entry))) (parse (now (s .entry)))) ⌝ }
 {
-    let values = header.flows;
-    let position = get32(record, 4);
-    if bears_new_name(s, values, header.length, position, record) {
+    if fields.kind == 1 {
+        return false;
+    }
+    let header = header_fields(s);
+    is_declared(header.index_offset, header.index_length)
+}
+
+// 23: a new clip is above the read's number of bases.
+pub fn clip_above(s: &[u8], place: usize, fields: Fields, record: &[u8]) -> bool
+    requires { ⌜ Found (now s) (now «record») fields ⌝ }
+    requires { ⌜ place ≡ readPlace (now s) (fields .position) ⌝ }
+    ensures { λ t. ⌜ ((room : ℕ) → t ≡ clipAbove room (asked fields (now («record» .entry))) (parse (now (s .entry)))) ⌝ }
+{
+    if fields.kind != 1 {
+        return false;
+    }
+    let clips = clip_test(
+        0,
+        get32(s, place + 4),
+        BasePosition(fields.quality_left),
+        BasePosition(fields.quality_right),
+        BasePosition(fields.adapter_left),
+        BasePosition(fields.adapter_right),
+    );
+    let Answer::Accepted = clips else {
+        return true;
+    };
+    false
+}
+
+// 24: a rename to a name that another read bears.
+pub fn name_borne(s: &[u8], fields: Fields, record: &[u8]) -> bool
+    requires { ⌜ Found (now s) (now «record») fields ⌝ }
+    ensures { λ t. ⌜ ((room : ℕ) → t ≡ nameBorne room (asked fields (now («record» .entry))) (parse (now (s .entry)))) ⌝ }
+{
+    if fields.kind != 2 {
+        return false;
+    }
+    bears(s, fields.position, new_name(record, fields))
+}
+
+// 26: the file with the new name does not fit into a buffer of `room` bytes, into which it fits as it is.
+pub fn no_room(s: &[u8], room: usize, place: usize, fields: Fields, record: &[u8]) -> bool
+    requires { ⌜ Found (now s) (now «record») fields ⌝ }
+    requires { ⌜ place ≡ readPlace (now s) (fields .position) ⌝ }
+    requires { ⌜ length (now s) ≤ room ⌝ }
+    ensures { λ t. ⌜ t ≡ noRoom room (asked fields (now («record» .entry))) (parse (now (s .entry))) ⌝ }
+{
+    if fields.kind != 2 {
+        return false;
+    }
+    room - s.len() + get16(s, place) < up8(16 + fields.new_length)
+}
+
+// The first reason from 22 on against a record whose read stands at `place`, in a buffer of `room` bytes.
+pub fn reason(s: &[u8], room: usize, place: usize, fields: Fields, record: &[u8]) -> Answer
+    requires { ⌜ fileTest (now s) ≡ Accepted ⌝ }
+    requires { ⌜ recordTest (now «record») ≡ Accepted ⌝ }
+    requires { ⌜ FieldsOf fields (now «record») ⌝ }
+    requires { ⌜ fields .position < readCount (now s) ⌝ }
+    requires { ⌜ place ≡ readPlace (now s) (fields .position) ⌝ }
+    requires { ⌜ length (now s) ≤ room ⌝ }
+    ensures { λ a. ⌜ a ≡ reasons room (asked fields (now («record» .entry))) (parse (now (s .entry))) ⌝ }
+{
+    if other_name(s, place, fields, record) {
+        return Answer::Refused(22, 0);
+    }
+    if index_present(s, fields, record) {
+        return Answer::Refused(25, 0);
+    }
+    if clip_above(s, place, fields, record) {
+        return Answer::Refused(23, 0);
+    }
+    if name_borne(s, fields, record) {
         return Answer::Refused(24, 0);
     }
-    let next = read_end(s, p, values);
-    let after = header.reads - (position + 1);
-    if bears_new_name(s, values, next, after, record) {
-        return Answer::Refused(24, 0);
-    }
-    if room - s.len() + get16(s, p) < up8(16 + wide(record[2])) {
+    if no_room(s, room, place, fields, record) {
         return Answer::Refused(26, 0);
     }
     Answer::Accepted
-}
-
-// 25, 23, 24, 26: where the read at p has the old name.
-fn named_reason(s: &[u8], room: usize, p: usize, record: &[u8]) -> Answer
-    requires { ⌜ Found room (now s) (now «record») p ⌝ }
-    requires { ⌜ same (oldName (now «record»)) (part (p + 16) (nameLength (now s) p) (now s)) ≡ true ⌝ }
-    ensures { λ a. ⌜ a ≡ reasons room (now («record» .entry)) (parse (now (s .entry))) ⌝ }
-{
-    let kind = record[0];
-    if kind == 1 {
-        let clips = new_clips_test(s, p, record);
-        let Answer::Accepted = clips else {
-            return Answer::Refused(23, 0);
-        };
-        return Answer::Accepted;
-    }
-    let header = header_fields(s);
-    if is_declared(header.index_offset, header.index_length) {
-        return Answer::Refused(25, 0);
-    }
-    if kind != 2 {
-        return Answer::Accepted;
-    }
-    rename_reason(s, room, p, record, header)
-}
-
-// 22 and what comes after it: the first reason against a record whose read stands at p, in a buffer of `room` bytes.
-pub fn reason(s: &[u8], room: usize, p: usize, record: &[u8]) -> Answer
-    requires { ⌜ fileTest (now s) ≡ Accepted ⌝ }
-    requires { ⌜ recordTest (now «record») ≡ Accepted ⌝ }
-    requires { ⌜ position (now «record») < readCount (now s) ⌝ }
-    requires { ⌜ p ≡ readPlace (now s) (position (now «record»)) ⌝ }
-    requires { ⌜ length (now s) ≤ room ⌝ }
-    ensures { λ a. ⌜ a ≡ reasons room (now («record» .entry)) (parse (now (s .entry))) ⌝ }
-{
-    if has_name(s, p, record, 16, wide(record[1])) {
-        return named_reason(s, room, p, record);
-    }
-    Answer::Refused(22, 0)
 }

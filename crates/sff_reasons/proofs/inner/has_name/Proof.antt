@@ -1,22 +1,17 @@
-use Prim.Native.Nat.{ℕ, _+_}
-use mathlib.Core.Path.{sym, ap, _∙_}
-use Rattle.octets.specs.Parts.{part, same}
-use Rattle.sff_reasons.proofs.Names.{names-differ}
+-- Names are compared byte by byte where they have one length.
+use Prim.Native.Nat.{_+_}
+use Rattle.sff_reasons.proofs.Told.{names-differ, names-compared}
 use borrow.Author.Needs.{needs}
 use Rattle.sff_reasons.proofs.inner.has_name.Statement.{statement}
 use Rattle.sff_reasons.proofs.inner.has_name.Tie as tie
 
-pub has-name-spec : {M : Type 1} → statement M
-has-name-spec =
-    tie.close
-    (tie.spec
-    (λ c. search needs)
-    (λ c κs. search needs)
-    (λ c.
-    let d = c .before .before .before .before in
-    names-differ _ _ _ _ _ _ (d .pre .1) (d .pre .0) (λ e. c .if1 .taken (e ∙ sym (c .before .get16 .ensures .0))))
-    (λ c. search needs)
-    (λ c κs. search needs)
-    (λ c.
+returns : tie.Need-returns
+returns c = names-differ _ _ _ _ (c .before .get16 .ensures .0) (c .before .before .before .before .pre) (c .if1 .taken)
+
+returns-2 : tie.Need-returns-2
+returns-2 c =
     let a = c .before .before .before .before .before .args in
-    c .same-part .ensures ∙ ap (λ (m : ℕ). same (part (a .from) (a .n) (a .«record» .now)) (part (a .p + 16) m (a .s .now))) (c .before .if1 .left ∙ c .before .before .get16 .ensures .0)))
+    names-compared _ (a .s .now) (a .p + 16) _ (c .before .before .get16 .ensures .0) (c .before .if1 .left) (c .same-part .ensures)
+
+pub has-name-spec : {M : Type 1} → statement M
+has-name-spec = tie.close (tie.spec (λ c. search needs) (λ c κs. search needs) returns (λ c. search needs) (λ c κs. search needs) returns-2)

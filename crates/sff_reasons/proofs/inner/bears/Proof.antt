@@ -1,0 +1,55 @@
+-- At each turn the reads at the boundary and after it decide.
+use Prim.Native.Nat.{_-_, _<_}
+use native.Mathlib.Omega.{arith}
+use Rattle.sff_format.specs.HeaderTest.{readCount}
+use Rattle.sff_format.proofs.HeaderLaws.{fits-31}
+use Rattle.sff_format.proofs.FileLaid.{head-ok}
+use Rattle.sff_format.proofs.Walks.{walk-begins, walk-name}
+use Rattle.sff_header.proofs.Fields.{reads-of}
+use Rattle.sff_reasons.proofs.Sought.{Sought, sought-start, sought-none, sought-found, sought-more}
+use borrow.Author.Needs.{needs}
+use Rattle.sff_reasons.proofs.inner.bears.Statement.{statement}
+use Rattle.sff_reasons.proofs.inner.bears.Tie as tie
+
+abbrev Inv-loop : tie.InvT-loop
+Inv-loop s position name header at₀ behind₀ at behind = Sought name s position behind at
+
+abbrev μ-loop : tie.MeasureT-loop
+μ-loop s position name header at₀ behind₀ at behind = header .reads - behind
+
+header-fields-requires : tie.Need-header-fields-requires Inv-loop μ-loop
+header-fields-requires c κs = fits-31 _ (head-ok _ (c .before .before .pre))
+
+loop-holds : tie.Need-loop-holds Inv-loop μ-loop
+loop-holds c = sought-start _ _ _ (c .before .before .before .before .pre) (c .first-boundary .ensures)
+
+-- a read stands past any index
+remains : (c : tie.After-past-index Inv-loop μ-loop) → c .before .before .before .loop .behind < readCount (c .before .before .before .before .before .before .before .before .args .s .now)
+remains c = rw (reads-of _ _ (c .before .before .before .before .before .header-fields .ensures .0)) (c .before .if1 .taken)
+
+has-name-requires : tie.Need-has-name-requires Inv-loop μ-loop
+has-name-requires c κs = walk-name (c .before .before .before .loop .inv .walk) (c .past-index .ensures) (remains c)
+
+returns : tie.Need-returns Inv-loop μ-loop
+returns c =
+    let s = c .before .before in
+    sought-found (s .before .before .before .loop .inv) (s .past-index .ensures) (remains s) (c .before .has-name .ensures) (c .if2 .taken)
+
+next-boundary-requires : tie.Need-next-boundary-requires Inv-loop μ-loop
+next-boundary-requires c κs =
+    let s = c .before .before in
+    let h = s .before .before .before .before .before .header-fields .ensures in
+    (h .0, (h .1, walk-begins (s .before .before .before .loop .inv .walk) (s .past-index .ensures) (remains s)))
+
+loop-again : tie.Need-loop-again Inv-loop μ-loop
+loop-again c =
+    let s = c .before .before .before in
+    sought-more (s .before .before .before .loop .inv) (s .past-index .ensures) (remains s) (c .before .before .has-name .ensures) (c .before .if2 .left) (c .next-boundary .ensures)
+
+returns-2 : tie.Need-returns-2 Inv-loop μ-loop
+returns-2 c =
+    let l = c .before .before in
+    sought-none (l .loop .inv) (rw (reads-of _ _ (l .before .before .header-fields .ensures .0)) (c .if1 .left))
+
+pub bears-spec : {M : Type 1} → statement M
+bears-spec = tie.close (tie.spec Inv-loop μ-loop header-fields-requires (λ c κs. search needs) loop-holds (λ c κs. search needs) has-name-requires returns next-boundary-requires (λ c. search needs) (λ c. search needs) loop-again returns-2)

@@ -1,0 +1,16 @@
+-- The new name is looked for among the reads at other positions.
+use Rattle.sff_reasons.proofs.Told.{none-borne, borne-told}
+use borrow.Author.Needs.{needs}
+use Rattle.sff_reasons.proofs.inner.name_borne.Statement.{statement}
+use Rattle.sff_reasons.proofs.inner.name_borne.Tie as tie
+
+returns : tie.Need-returns
+returns c room = none-borne (c .before .before .before .before .pre) room (c .if1 .taken)
+
+returns-2 : tie.Need-returns-2
+returns-2 c room =
+    let l = c .before .before in
+    borne-told (l .before .before .before .before .pre) room (l .if1 .left) (rw (c .before .new-name .ensures) at (c .bears .ensures))
+
+pub name-borne-spec : {M : Type 1} → statement M
+name-borne-spec = tie.close (tie.spec returns (λ c κs. search needs) (λ c κs. search needs) returns-2)

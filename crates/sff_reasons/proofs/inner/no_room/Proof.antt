@@ -1,0 +1,39 @@
+-- Only the header section of a renamed read may need more room than there is.
+use Prim.Native.Nat.{_+_, _≤_}
+use native.Mathlib.Omega.{arith}
+use Rattle.sff_correction.proofs.Asked.{new-inside}
+use Rattle.sff_reasons.proofs.Told.{found-begins, found-section, room-kept, room-told}
+use borrow.Author.Needs.{needs}
+use Rattle.sff_reasons.proofs.inner.no_room.Statement.{statement}
+use Rattle.sff_reasons.proofs.inner.no_room.Tie as tie
+
+returns : tie.Need-returns
+returns c = let d = c .before .before .before .before in room-kept (d .pre .0) _ (d .pre .1 .1) (c .if1 .taken)
+
+get16-requires : tie.Need-get16-requires
+get16-requires c κs = let d = c .before .before .before .before in let h = found-begins (d .pre .0) (d .pre .1 .0) in omega arith
+
+add-result : tie.Need-add-result
+add-result c =
+    let d = c .before .before .before .before .before in
+    let h = found-section (d .pre .0) (d .pre .1 .0) in
+    let k = c .get16 .ensures .0 in
+    search needs
+
+short : (c : tie.After-struct-known2) → c .before .before .before .before .before .before .args .fields .«new_length» ≤ 40
+short c = let d = c .before .before .before .before .before .before in new-inside _ _ (d .pre .0 .fields-of) (d .pre .0 .formed)
+
+add-up8 : tie.Need-add-up8
+add-up8 c = let h = short c in search needs
+
+up8-requires : tie.Need-up8-requires
+up8-requires c κs = let h = short c in omega arith
+
+returns-2 : tie.Need-returns-2
+returns-2 c =
+    let l = c .before .before .before in
+    let d = l .before .before .before .before in
+    room-told (d .pre .0) (d .pre .1 .0) _ (l .if1 .left) (d .pre .1 .1) (c .before .before .get16 .ensures .0) (c .up8 .ensures)
+
+pub no-room-spec : {M : Type 1} → statement M
+no-room-spec = tie.close (tie.spec returns (λ c. search needs) get16-requires add-result add-up8 up8-requires returns-2)

@@ -1,7 +1,7 @@
 -- What the fields that the code holds ask for, by the kind. Assumes nothing.
-use Prim.Native.Nat.{ℕ, _+_, _≤_}
-use mathlib.Core.Path.{_≡_, refl, sym, ap, _∙_}
-use mathlib.Core.Bool.{Bool, true, false, cond}
+use Prim.Native.Nat.{ℕ, _≤_}
+use mathlib.Core.Path.{_≡_, sym, ap, _∙_}
+use mathlib.Core.Bool.{true}
 use mathlib.Core.List.{List}
 use native.Mathlib.Omega.{arith}
 use borrow.Author.Tests.{eq-eqb, ne-eqb}
@@ -9,10 +9,10 @@ use lib.Dec.{eqb}
 use lib.ListN.{length}
 use Rattle.answers.specs.declared.Answer.the-variants.{Accepted}
 use Rattle.sff_correction.specs.declared.Fields.{Fields}
-use Rattle.sff_correction.specs.Record.{kind, oldLength, newLength, oldName, newName, recordTest}
-use Rattle.sff_correction.specs.Correction.{Change, clips, rename, remove, isClips}
-use Rattle.sff_correction.specs.RecordLayout.{changeIn}
-use Rattle.sff_correction.specs.Fields.{FieldsOf}
+use Rattle.sff_correction.specs.Record.{kind, position, oldName, newName, recordTest}
+use Rattle.sff_correction.specs.Correction.{clips, rename, remove, moved}
+use Rattle.sff_correction.specs.RecordLayout.{changeIn, parseRecord}
+use Rattle.sff_correction.specs.Fields.{fieldsAt, FieldsOf, asked}
 use Rattle.sff_correction.proofs.Records.{record-96, old-most, new-most, old-size, new-size}
 
 module _ (x : Fields) (r : List ℕ) (o : FieldsOf x r) where
@@ -49,3 +49,11 @@ module _ (x : Fields) (r : List ℕ) (o : FieldsOf x r) where
 
     pub new-inside : x .«new_length» ≤ 40
     new-inside = let a = ap (λ (y : Fields). y .«new_length») o in let b = new-most r e in omega arith
+
+-- a record's fields with its own position ask for what it says
+module _ (x : Fields) (r : List ℕ) (e : x ≡ fieldsAt (position r) r) where
+  pub own-fields : FieldsOf x r
+  own-fields = rw e
+
+  pub own-asked : asked x r ≡ parseRecord r
+  own-asked = λ j. moved (e j .position) (parseRecord r)

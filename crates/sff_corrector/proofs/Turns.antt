@@ -58,12 +58,9 @@ module _ (buffer : List ℕ) (len : ℕ) (r : List ℕ) where
       stop-file e t = sym (test-from-file buffer len r h q ∙ rw (← e, t))
 
       module _ (t : fileTest (take len buffer) ≡ Accepted) where
-        pub stop-21 : readCount (take len buffer) ≤ position r → Refused 21 0 ≡ correctTest buffer len r
-        unfolding reasons positionAbove
-        stop-21 g =
-            let f = parse (take len buffer) in
-            let above : positionAbove (length buffer) (parseRecord r) f ≡ true = ap not (le-ltb (position r) (length (f .reads)) (rw (reads-counted (take len buffer)) g)) in
-            sym (test-from-21 buffer len r h q t ∙ row-holds 21 (positionAbove (length buffer) (parseRecord r) f) _ above)
+        pub stop-21 : positionAbove (length buffer) (parseRecord r) (parse (take len buffer)) ≡ true → Refused 21 0 ≡ correctTest buffer len r
+        unfolding reasons
+        stop-21 g = sym (test-from-21 buffer len r h q t ∙ row-holds 21 _ _ g)
 
         pub reasons-are : {a : Answer} → a ≡ reasons (length buffer) (parseRecord r) (parse (take len buffer)) → a ≡ correctTest buffer len r
         reasons-are e = e ∙ sym (test-from-21 buffer len r h q t)

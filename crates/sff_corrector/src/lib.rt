@@ -13,7 +13,6 @@ ghost use Rattle.sff_correction.specs.ListRun.{turns, runList};
 ghost use Rattle.sff_corrector.specs.declared.Start.the-variants.{Known};
 ghost use Rattle.sff_corrector.specs.Carried.{outcomeOf, StartIn, Ready, Onward};
 use answers::Answer;
-use octets::inner::get32;
 use sff::file_test;
 use sff_correction::ListOutcome;
 use sff_edit::inner::apply;
@@ -21,6 +20,7 @@ use sff_find::inner::Mark;
 use sff_find::inner::find;
 use sff_find::inner::find_on;
 use sff_format::Outcome;
+use sff_reasons::inner::position_above;
 use sff_reasons::inner::reason;
 use sff_record::inner::record_fields;
 use sff_record::record_test;
@@ -60,10 +60,10 @@ fn carry_out(buffer: &mut [u8], len: usize, record: &[u8], from: Start) -> Carri
 {
     let room = buffer.len();
     let fields = record_fields(record);
-    let position = fields.position;
-    if position >= get32(&buffer[..len], 20) {
+    if position_above(&buffer[..len], fields, record) {
         return Carried::Stopped(21, 0);
     }
+    let position = fields.position;
     let place = find_from(&buffer[..len], from, position);
     let answer = reason(&buffer[..len], room, place, fields, record);
     if let Answer::Refused(number, at) = answer {

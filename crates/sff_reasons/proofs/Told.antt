@@ -4,7 +4,7 @@ use mathlib.Core.Path.{_≡_, refl, sym, ap, _∙_}
 use mathlib.Core.Bool.{Bool, true, false, not}
 use mathlib.Core.List.{List, []}
 use native.Mathlib.Omega.{arith}
-use borrow.Author.Tests.{ltb-true, ltb-false, lt-ltb, le-ltb, ne-eqb}
+use borrow.Author.Tests.{not-false, ltb-true, ltb-false, lt-ltb, le-ltb, ne-eqb}
 use lib.Dec.{ltb, eqb}
 use lib.ListN.{length}
 use lib.Seq.{take-length}
@@ -17,7 +17,7 @@ use Rattle.answers.specs.Answer.{acceptedOr}
 use Rattle.answers.proofs.Answers.{cond-keeps}
 use Rattle.sff_format.specs.Rules.{declared}
 use Rattle.sff_format.specs.Model.{layout}
-use Rattle.sff_format.specs.HeaderTest.{indexOffset, indexLength, flows, flowCharacters}
+use Rattle.sff_format.specs.HeaderTest.{indexOffset, indexLength, readCount, flows, flowCharacters}
 use Rattle.sff_format.specs.ReadTest.{sectionLength, nameLength, baseCount, clipTest, readTest}
 use Rattle.sff_format.specs.Parse.{parseRead, parse}
 use Rattle.sff_format.specs.Places.{readPlace}
@@ -56,6 +56,20 @@ moved-over room n k u v h e = go (ltb room v) refl
     go : (t : Bool) → ltb room v ≡ t → ltb (room - n + k) u ≡ t
     go true l = let m = ltb-true room v l in lt-ltb (room - n + k) u (omega arith)
     go false l = let m = ltb-false room v l in le-ltb (room - n + k) u (omega arith)
+
+-- 21 by the header's count
+module _ (b r : List ℕ) (x : Fields) (room : ℕ) where
+  pub above-told : readCount b ≤ x .position → true ≡ positionAbove room (asked x r) (parse b)
+  unfolding positionAbove
+  above-told h = sym (ap not (le-ltb (x .position) (length (parse b .reads)) (rw (reads-counted b) h)))
+
+  pub below-told : x .position < readCount b → false ≡ positionAbove room (asked x r) (parse b)
+  unfolding positionAbove
+  below-told h = sym (ap not (lt-ltb (x .position) (length (parse b .reads)) (rw (reads-counted b) h)))
+
+  pub below-count : positionAbove room (asked x r) (parse b) ≡ false → x .position < readCount b
+  unfolding positionAbove
+  below-count e = rw (reads-counted b) at (ltb-true (x .position) (length (parse b .reads)) (not-false _ e))
 
 module _ {b r : List ℕ} {x : Fields} (s : Found b r x) where
   -- what holds of every change that a record of another kind asks for

@@ -1,5 +1,5 @@
-// One test for each reason of document 01 from 22 on, and the first that holds. For the crates above, which have tested
-// the file and the record and found the read: hence each `requires`.
+// One test for each reason of document 01 from 21 on, and the first that holds. For the crates above, which have tested
+// the file and the record and, from 22 on, found the read: hence each `requires`.
 ghost use mathlib.Core.Path.{_≡_};
 ghost use Prim.Native.Nat.{ℕ, _+_, _≤_, _<_};
 ghost use mathlib.Core.List.{[]};
@@ -13,7 +13,7 @@ ghost use Rattle.sff_format.specs.Parse.{parse};
 ghost use Rattle.sff_format.specs.Places.{readPlace, replaced};
 ghost use Rattle.sff_correction.specs.Record.{recordTest};
 ghost use Rattle.sff_correction.specs.Fields.{FieldsOf, asked};
-ghost use Rattle.sff_correction.specs.Reasons.{bears, otherName, indexPresent, clipAbove, nameBorne, noRoom, reasons};
+ghost use Rattle.sff_correction.specs.Reasons.{bears, positionAbove, otherName, indexPresent, clipAbove, nameBorne, noRoom, reasons};
 ghost use Rattle.sff_reasons.specs.Found.{Found};
 use answers::Answer;
 use octets::inner::get16;
@@ -59,6 +59,17 @@ fn bears(s: &[u8], position: usize, name: &[u8]) -> bool
         behind += 1;
     }
     false
+}
+
+// 21: the position is not below the number of reads.
+pub fn position_above(s: &[u8], fields: Fields, record: &[u8]) -> bool
+    requires { ⌜ fileTest (now s) ≡ Accepted ⌝ }
+    ensures { λ t. ⌜ ((room : ℕ) → t ≡ positionAbove room (asked fields (now («record» .entry))) (parse (now (s .entry)))) ⌝ }
+{
+    if fields.position < get32(s, 20) {
+        return false;
+    }
+    true
 }
 
 // 22: the read has another name.

@@ -1,0 +1,20 @@
+-- The header's count decides.
+use native.Mathlib.Omega.{arith}
+use Rattle.sff_format.proofs.HeaderLaws.{fits-31}
+use Rattle.sff_format.proofs.FileLaid.{head-ok}
+use Rattle.sff_reasons.proofs.Told.{above-told, below-told}
+use borrow.Author.Needs.{needs}
+use Rattle.sff_reasons.proofs.inner.position_above.Statement.{statement}
+use Rattle.sff_reasons.proofs.inner.position_above.Tie as tie
+
+get32-requires : tie.Need-get32-requires
+get32-requires c κs = let h = fits-31 _ (head-ok _ (c .before .before .before .pre)) in omega arith
+
+returns : tie.Need-returns
+returns c room = below-told _ _ _ room (let e = c .before .get32 .ensures .0 in let h = c .if1 .taken in omega arith)
+
+returns-2 : tie.Need-returns-2
+returns-2 c room = above-told _ _ _ room (let e = c .before .get32 .ensures .0 in let h = c .if1 .left in omega arith)
+
+pub position-above-spec : {M : Type 1} → statement M
+position-above-spec = tie.close (tie.spec get32-requires returns returns-2)

@@ -28,7 +28,7 @@ use splice::inner::splice;
 // Gives the read at p the four new clips.
 fn put_clips(buffer: &mut [u8], p: usize, fields: Fields)
     requires { ⌜ p + 16 ≤ length (now buffer) ⌝ }
-    ensures { λ _. ⌜ now (buffer .exit) ≡ clippedAt (p + 8) fields (now (buffer .entry)) ⌝ }
+    ensures { λ _. ⌜ now (buffer .exit) ≡ clippedAt p fields (now (buffer .entry)) ⌝ }
 {
     let at = p + 8;
     put16(buffer, at, fields.quality_left);

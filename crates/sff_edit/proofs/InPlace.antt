@@ -1,4 +1,5 @@
--- An edit in place leaves the file written afresh with the read changed or left out. Assumes nothing.
+-- What the code writes, call by call, is the edit, and the edit leaves the file written afresh with the read changed or
+-- left out. Assumes nothing.
 use Prim.Native.Nat.{ℕ, _+_, _-_, _≤_, _<_, max}
 use mathlib.Core.Path.{_≡_, refl, sym, ap, _∙_}
 use mathlib.Core.Bool.{false}
@@ -106,7 +107,7 @@ pub read-cut : (p size len : ℕ) (b : List ℕ) {reads : ℕ} {s t : List ℕ} 
 unfolding removedAt
 read-cut p size len b e₁ e₂ e₃ = e₃ ∙ rw (e₁, e₂)
 
--- An accepted file in a buffer, the fields of a well-formed record for which no reason holds, and the place of its read.
+-- An accepted file in a buffer, a well-formed record for which no reason holds, its fields, and the place of its read.
 pub record Ready (buffer : List ℕ) (len p : ℕ) (x : Fields) (r : List ℕ) : Type 0 where
   pub inside : len ≤ length buffer
   pub bytes : Bytes (take len buffer)

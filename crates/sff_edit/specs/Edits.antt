@@ -1,4 +1,5 @@
--- What each edit in place writes, in bytes: p is the place of the read, len the file's length in the buffer b. Assumes nothing: these are definitions.
+-- What each edit in place writes, in bytes: p is the place of the read, len the file's length in the buffer b.
+-- Assumes nothing: these are definitions.
 use Prim.Native.Nat.{ℕ, _+_, _-_}
 use mathlib.Core.List.{List, [], _∷_, _++_}
 use lib.ListN.{take}
@@ -24,7 +25,8 @@ clippedAt p x b = putAt (p + 8) (words (x .«quality_left» ∷ x .«quality_rig
 abbrev pub nameRoom : ℕ → ℕ
 nameRoom n = up8 (16 + n) - 16
 
--- a new name of n bytes with its padding, which its field has too, in the place of the old one with its own; then the two lengths that precede it
+-- a new name of n bytes with its padding, which its field has too, in the place of the old one with its own; then the
+-- two lengths that precede it
 unfoldable pub renamedAt : ℕ → ℕ → ℕ → List ℕ → List ℕ → List ℕ
 renamedAt p len n field b =
     putAt p (bytesOf 2 (up8 (16 + n)) ++ bytesOf 2 n) (spliced (p + 16) (sectionLength b p - 16) len (take (nameRoom n) field) b)

@@ -74,8 +74,8 @@ fn take_out(buffer: &mut [u8], len: usize, p: usize, size: usize) -> usize
     len - size
 }
 
-// Carries out a record for which no reason holds, with these fields, on the file that fills the first `len` bytes of the buffer and whose read stands at
-// `place`. Answers the file's length afterwards.
+// Carries out a record for which no reason holds, by its fields, on the file that fills the first `len` bytes of the
+// buffer and whose read stands at `place`. Answers the file's length afterwards.
 pub fn apply(buffer: &mut [u8], len: usize, place: usize, fields: Fields, record: &[u8]) -> usize
     requires { ⌜ len ≤ length (now buffer) ⌝ }
     requires { ⌜ fileTest (take len (now buffer)) ≡ Accepted ⌝ }

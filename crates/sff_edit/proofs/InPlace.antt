@@ -1,4 +1,5 @@
--- An edit in place leaves the file written afresh with the read changed or left out. Assumes nothing.
+-- What the code writes, call by call, is the edit, and the edit leaves the file written afresh with the read changed or
+-- left out. Assumes nothing.
 use Prim.Native.Nat.{ℕ, _+_, _-_, _≤_, _<_, max}
 use mathlib.Core.Path.{_≡_, refl, sym, ap, _∙_}
 use mathlib.Core.Bool.{false}
@@ -6,14 +7,14 @@ use mathlib.Core.Logic.{_⊎_, inl, inr}
 use mathlib.Core.List.{List, [], _∷_, _++_, append-assoc, append-nil}
 use native.Mathlib.Omega.{arith}
 use borrow.Author.Tests.{eq-eqb}
-use lib.ListN.{length, take, drop, length-append, length-take, length-drop, length-replicate}
+use lib.ListN.{length, take, drop, length-append, length-take, length-drop}
 use lib.Seq.{length-take-le, take-take, take-at, drop-at}
 use Rattle.octets.specs.Parts.{part, putAt, filled, settled, spliced, up8}
-use Rattle.octets.specs.Numbers.{Bytes, number, bytesOf, fields}
+use Rattle.octets.specs.Numbers.{Bytes, number, bytesOf, fields, words, unitBytes}
 use Rattle.octets.proofs.Lists.{length-put, put-over, put-next, length-part}
 use Rattle.octets.proofs.Digits.{length-bytesOf}
 use Rattle.octets.proofs.Inserts.{drop-rest}
-use Rattle.octets.proofs.Stands.{length-fields, length-filled, field-filled, number-take}
+use Rattle.octets.proofs.Stands.{length-units, length-fields, length-filled, field-filled, number-take}
 use Rattle.octets.proofs.Settled.{settled-front, settled-put, splice-settled}
 use Rattle.answers.specs.declared.Answer.the-variants.{Accepted}
 use Rattle.sff_format.specs.Model.{Read, noIndex, readFields, layoutReadHeader, layoutReadData, layoutRead, layoutReads, layout, withReads}
@@ -47,10 +48,6 @@ over-put : (at : ℕ) (xs new : List ℕ) (len : ℕ) (b : List ℕ) → at + le
 over-put at xs new len b h =
     settled-put at xs new (max len (length new)) b h ∙ ap (λ (n : ℕ). settled (putAt at xs new) (max len n) b) (sym (length-put at xs new h))
 
-over-least : (new : List ℕ) (len : ℕ) (b : List ℕ) → length new ≤ length (over new len b)
-unfolding settled filled
-over-least new len b = simp (length-append, length-replicate) (omega arith)
-
 -- a read's header section: two lengths, the number of bases, the clips, the name with its padding
 abbrev lengths : ℕ → List ℕ
 lengths n = bytesOf 2 (up8 (16 + n)) ++ bytesOf 2 n
@@ -58,11 +55,8 @@ lengths n = bytesOf 2 (up8 (16 + n)) ++ bytesOf 2 n
 abbrev bases : Read → List ℕ
 bases x = bytesOf 4 (length (x .bases))
 
-abbrev four : ℕ → ℕ → ℕ → ℕ → List ℕ
-four s t u v = bytesOf 2 s ++ bytesOf 2 t ++ bytesOf 2 u ++ bytesOf 2 v
-
 abbrev clip-bytes : Read → List ℕ
-clip-bytes x = four (x .quality-left) (x .quality-right) (x .adapter-left) (x .adapter-right)
+clip-bytes x = words (x .quality-left ∷ x .quality-right ∷ x .adapter-left ∷ x .adapter-right ∷ [])
 
 abbrev name-padded : List ℕ → List ℕ
 name-padded name = filled (nameRoom (length name)) name
@@ -70,22 +64,50 @@ name-padded name = filled (nameRoom (length name)) name
 -- a read by these pieces, between what stands before it and what stands after
 pieces : (front : List ℕ) (x : Read) (back : List ℕ)
     → front ++ (layoutRead x ++ back) ≡ front ++ (lengths (length (x .name)) ++ (bases x ++ (clip-bytes x ++ (name-padded (x .name) ++ (layoutReadData x ++ back)))))
-unfolding layoutRead layoutReadHeader readFields filled fields
+unfolding layoutRead layoutReadHeader readFields filled fields unitBytes
 pieces front x back =
     let l : length (fields (readFields x) ++ x .name) ≡ 16 + length (x .name) = rw (length-append, length-fields) in
     let e : up8 (16 + length (x .name)) - (16 + length (x .name)) ≡ nameRoom (length (x .name)) - length (x .name) = omega arith in
     rw (l, e) (simp (append-assoc, append-nil))
 
 -- the four clips, put one after another
-clips-put : (at : ℕ) (x : Fields) (b : List ℕ) → at + 8 ≤ length b → clippedAt at x b ≡ putAt at (four (x .«quality_left») (x .«quality_right») (x .«adapter_left») (x .«adapter_right»)) b
-clips-put at x b h =
+pub clips-put :
+    (p : ℕ) (x : Fields) (b : List ℕ) {s t u v : List ℕ} →
+    s ≡ putAt (p + 8) (bytesOf 2 (x .«quality_left»)) b →
+    t ≡ putAt (p + 8 + 2) (bytesOf 2 (x .«quality_right»)) s →
+    u ≡ putAt (p + 8 + 4) (bytesOf 2 (x .«adapter_left»)) t →
+    v ≡ putAt (p + 8 + 6) (bytesOf 2 (x .«adapter_right»)) u →
+    p + 16 ≤ length b →
+    v ≡ clippedAt p x b
+unfolding clippedAt unitBytes
+clips-put p x b e₁ e₂ e₃ e₄ h =
     let one = bytesOf 2 (x .«quality_left») in
     let two = bytesOf 2 (x .«quality_right») in
     let three = bytesOf 2 (x .«adapter_left») in
-    rw (put-next at 2 one two b (length-bytesOf 2 _) (omega arith), put-next at 4 (one ++ two) three b (simp (length-append, length-bytesOf)) (omega arith))
-    (put-next at 6 (one ++ two ++ three) (bytesOf 2 (x .«adapter_right»)) b (simp (length-append, length-bytesOf)) (omega arith))
+    let four = bytesOf 2 (x .«adapter_right») in
+    rw (e₄, e₃, e₂, e₁, put-next (p + 8) 2 one two b (length-bytesOf 2 _) (omega arith))
+    (rw (put-next (p + 8) 4 (one ++ two) three b (simp (length-append, length-bytesOf)) (omega arith))
+    (put-next (p + 8) 6 (one ++ two ++ three) four b (simp (length-append, length-bytesOf)) (omega arith) ∙ simp (append-assoc, append-nil)))
 
--- An accepted file in a buffer, the fields of a well-formed record for which no reason holds, and the place of its read.
+-- a name and its two lengths, put one after another
+pub name-put : (p len n : ℕ) (field b : List ℕ) {old new : ℕ} {s t u : List ℕ} →
+    old ≡ sectionLength b p →
+    new ≡ up8 (16 + n) →
+    s ≡ spliced (p + 16) (old - 16) len (take (new - 16) field) b →
+    t ≡ putAt p (bytesOf 2 new) s →
+    u ≡ putAt (p + 2) (bytesOf 2 n) t →
+    p + 2 ≤ length s →
+    u ≡ renamedAt p len n field b
+unfolding renamedAt
+name-put p len n field b {old} {new} {s} e₁ e₂ e₃ e₄ e₅ h =
+    e₅ ∙ ap (putAt (p + 2) (bytesOf 2 n)) e₄ ∙ put-next p 2 (bytesOf 2 new) (bytesOf 2 n) s (length-bytesOf 2 new) h ∙ rw (e₃, e₂, e₁)
+
+-- a read cut out, and the count put
+pub read-cut : (p size len : ℕ) (b : List ℕ) {reads : ℕ} {s t : List ℕ} → reads ≡ readCount b → s ≡ spliced p size len [] b → t ≡ putAt 20 (bytesOf 4 (reads - 1)) s → t ≡ removedAt p size len b
+unfolding removedAt
+read-cut p size len b e₁ e₂ e₃ = e₃ ∙ rw (e₁, e₂)
+
+-- An accepted file in a buffer, a well-formed record for which no reason holds, its fields, and the place of its read.
 pub record Ready (buffer : List ℕ) (len p : ℕ) (x : Fields) (r : List ℕ) : Type 0 where
   pub inside : len ≤ length buffer
   pub bytes : Bytes (take len buffer)
@@ -176,7 +198,7 @@ module _ {buffer : List ℕ} {len p : ℕ} {x : Fields} {r : List ℕ} (s : Read
   -- new clips
   module _ (k : x .kind ≡ 1) where
     abbrev new-clips : List ℕ
-    new-clips = four (x .«quality_left») (x .«quality_right») (x .«adapter_left») (x .«adapter_right»)
+    new-clips = words (x .«quality_left» ∷ x .«quality_right» ∷ x .«adapter_left» ∷ x .«adapter_right» ∷ [])
 
     abbrev clipped-read : Read
     clipped-read = clipped (x .«quality_left») (x .«quality_right») (x .«adapter_left») (x .«adapter_right») read
@@ -191,17 +213,18 @@ module _ {buffer : List ℕ} {len p : ℕ} {x : Fields} {r : List ℕ} (s : Read
         let u : List ℕ = front ++ (lengths (length (read .name)) ++ bases read) in
         let w : List ℕ = name-padded (read .name) ++ (layoutReadData read ++ back) in
         let l : length u ≡ p + 8 = simp (length-append, length-bytesOf, front-length) (omega arith) in
-        let m : length new-clips ≡ length (clip-bytes read) = simp (length-append, length-bytesOf) in
+        let m : length new-clips ≡ length (clip-bytes read) = simp length-units in
         let e : file ≡ u ++ (clip-bytes read ++ w) = split ∙ pieces front read back ∙ simp append-assoc in
         let f : u ++ (new-clips ++ w) ≡ new = sym (afresh-clips ∙ pieces front clipped-read back ∙ simp append-assoc) in
         ap (putAt (p + 8) new-clips) e ∙ (rw l at (put-over u new-clips (clip-bytes read) w m)) ∙ f
 
-    pub clips-done : {b : List ℕ} → b ≡ clippedAt (p + 8) x buffer → (len ≡ length new) × (b ≡ over new len buffer)
+    pub clips-done : {b : List ℕ} → b ≡ clippedAt p x buffer → (len ≡ length new) × (b ≡ over new len buffer)
+    unfolding clippedAt
     clips-done e =
-        let n : length new-clips ≡ 8 = simp (length-append, length-bytesOf) in (
+        let n : length new-clips ≡ 8 = length-units 2 _ in (
           sym (clips-size (asked x r) (parse file) counted _ _ _ _ (clips-asked x r (s .fields-are) k) ∙ laid),
-          e ∙ clips-put (p + 8) x buffer (omega (arith, ready-read, s .inside)) ∙ ap (putAt (p + 8) new-clips) (sym held)
-              ∙ over-put (p + 8) new-clips file len buffer (omega (arith, ready-start)) ∙ ap (λ (l : List ℕ). over l len buffer) clipped-file,
+          e ∙ ap (putAt (p + 8) new-clips) (sym held) ∙ over-put (p + 8) new-clips file len buffer (omega (arith, ready-start))
+              ∙ ap (λ (l : List ℕ). over l len buffer) clipped-file,
         )
 
   -- another change: there is no index
@@ -266,7 +289,7 @@ module _ {buffer : List ℕ} {len p : ℕ} {x : Fields} {r : List ℕ} (s : Read
         let old : List ℕ = name-padded (read .name) in
         let behind : List ℕ = layoutReadData read ++ back in
         let rest : List ℕ = bases read ++ (clip-bytes read ++ (name-padded name ++ behind)) in
-        let l : length ahead ≡ p + 16 = simp (length-append, length-bytesOf, front-length) (omega arith) in
+        let l : length ahead ≡ p + 16 = simp (length-append, length-bytesOf, length-units, front-length) (omega arith) in
         let n : length old ≡ old-room = length-filled (nameRoom (length (read .name))) (read .name) (omega arith) ∙ omega (arith, section) in
         let around : file ≡ ahead ++ (old ++ behind) = split ∙ pieces front read back ∙ simp append-assoc in
         let a : take (p + 16) file ≡ ahead = ap (take (p + 16)) around ∙ take-at ahead (old ++ behind) (p + 16) l in
@@ -288,14 +311,14 @@ module _ {buffer : List ℕ} {len p : ℕ} {x : Fields} {r : List ℕ} (s : Read
 
     pub name-done : {v : ℕ} {field b : List ℕ} → field ≡ part 56 40 r → v ≡ len - sectionLength buffer p + up8 (16 + x .«new_length») → b ≡ renamedAt p len (x .«new_length») field buffer
         → (v ≡ length new) × (b ≡ over new len buffer)
+    unfolding renamedAt
     name-done g t e =
         let h : p + 16 ≤ length spliced-file = simp (length-append, length-take) (omega (arith, ready-read, s .inside)) in
-        let i : p + 16 ≤ length (over spliced-file len buffer) = omega (arith, h, over-least spliced-file len buffer) in
         let j : spliced (p + 16) old-room len (name-padded name) buffer ≡ over spliced-file len buffer =
         splice-settled (p + 16) old-room len (name-padded name) buffer (omega (arith, section-least, section-inside)) (s .inside) in
         let m : length (lengths (length name)) ≡ 4 = simp (length-append, length-bytesOf) in (
           omega (arith, name-after, section-inside),
-          e ∙ rw (g, field-padded, j, name-size-is, put-next p 2 _ (bytesOf 2 (length name)) (over spliced-file len buffer) (length-bytesOf 2 (up8 (16 + length name))) (omega arith))
+          e ∙ rw (g, field-padded, j, name-size-is)
               (over-put p (lengths (length name)) spliced-file len buffer (omega arith) ∙ ap (λ (l : List ℕ). over l len buffer) renamed-file),
         )
 
@@ -334,6 +357,7 @@ module _ {buffer : List ℕ} {len p : ℕ} {x : Fields} {r : List ℕ} (s : Read
       end-inside = (omega (arith, end-is), omega (arith, end-is, read-inside))
 
       pub none-done : {v : ℕ} {b : List ℕ} → v ≡ len - (n - p) → b ≡ removedAt p (n - p) len buffer → (v ≡ length new) × (b ≡ over new len buffer)
+      unfolding removedAt
       none-done t e =
           let j : n - p ≡ length (layoutRead read) = omega (arith, end-is) in
           let l : length left ≡ len - length (layoutRead read) = simp (length-append, length-drop, front-length) (omega (arith, read-inside, size)) in

@@ -1,10 +1,10 @@
--- What each edit in place writes, in the order in which the code does: p is the place of the read, len the file's length in the buffer b. Assumes nothing:
--- these are definitions.
+-- What each edit in place writes, in bytes: p is the place of the read, len the file's length in the buffer b.
+-- Assumes nothing: these are definitions.
 use Prim.Native.Nat.{ℕ, _+_, _-_}
-use mathlib.Core.List.{List, []}
+use mathlib.Core.List.{List, [], _∷_, _++_}
 use lib.ListN.{take}
 use Rattle.octets.specs.Parts.{putAt, spliced, up8}
-use Rattle.octets.specs.Numbers.{bytesOf}
+use Rattle.octets.specs.Numbers.{bytesOf, words}
 use Rattle.sff_format.specs.Model.{layout}
 use Rattle.sff_format.specs.HeaderTest.{readCount}
 use Rattle.sff_format.specs.ReadTest.{sectionLength}
@@ -17,25 +17,20 @@ use Rattle.sff_correction.specs.Edit.{edited}
 abbrev pub afresh : Correction → ℕ → List ℕ → List ℕ
 afresh c len b = layout (edited c (parse (take len b)))
 
--- the four new clips, in file order, over the old ones, of which the first stands at `at`
-abbrev pub clippedAt : ℕ → Fields → List ℕ → List ℕ
-clippedAt at x b =
-    putAt (at + 6) (bytesOf 2 (x .«adapter_right»))
-    (putAt (at + 4) (bytesOf 2 (x .«adapter_left»))
-    (putAt (at + 2) (bytesOf 2 (x .«quality_right»))
-    (putAt at (bytesOf 2 (x .«quality_left»)) b)))
+-- the four new clips, in file order, over the old ones
+unfoldable pub clippedAt : ℕ → Fields → List ℕ → List ℕ
+clippedAt p x b = putAt (p + 8) (words (x .«quality_left» ∷ x .«quality_right» ∷ x .«adapter_left» ∷ x .«adapter_right» ∷ [])) b
 
 -- how many bytes a name of n bytes takes with its padding
 abbrev pub nameRoom : ℕ → ℕ
 nameRoom n = up8 (16 + n) - 16
 
--- a new name of n bytes with its padding, which its field has too, in the place of the old one with its own; then the two lengths that precede it
-abbrev pub renamedAt : ℕ → ℕ → ℕ → List ℕ → List ℕ → List ℕ
+-- a new name of n bytes with its padding, which its field has too, in the place of the old one with its own; then the
+-- two lengths that precede it
+unfoldable pub renamedAt : ℕ → ℕ → ℕ → List ℕ → List ℕ → List ℕ
 renamedAt p len n field b =
-    putAt (p + 2) (bytesOf 2 n)
-    (putAt p (bytesOf 2 (up8 (16 + n)))
-    (spliced (p + 16) (sectionLength b p - 16) len (take (nameRoom n) field) b))
+    putAt p (bytesOf 2 (up8 (16 + n)) ++ bytesOf 2 n) (spliced (p + 16) (sectionLength b p - 16) len (take (nameRoom n) field) b)
 
 -- the read of `size` bytes cut out, and counted no more
-abbrev pub removedAt : ℕ → ℕ → ℕ → List ℕ → List ℕ
+unfoldable pub removedAt : ℕ → ℕ → ℕ → List ℕ → List ℕ
 removedAt p size len b = putAt 20 (bytesOf 4 (readCount b - 1)) (spliced p size len [] b)

@@ -28,7 +28,7 @@ use splice::inner::splice;
 // Gives the read at p the four new clips.
 fn put_clips(buffer: &mut [u8], p: usize, fields: Fields)
     requires { ⌜ p + 16 ≤ length (now buffer) ⌝ }
-    ensures { λ _. ⌜ now (buffer .exit) ≡ clippedAt (p + 8) fields (now (buffer .entry)) ⌝ }
+    ensures { λ _. ⌜ now (buffer .exit) ≡ clippedAt p fields (now (buffer .entry)) ⌝ }
 {
     let at = p + 8;
     put16(buffer, at, fields.quality_left);
@@ -74,8 +74,8 @@ fn take_out(buffer: &mut [u8], len: usize, p: usize, size: usize) -> usize
     len - size
 }
 
-// Carries out a record for which no reason holds, with these fields, on the file that fills the first `len` bytes of the buffer and whose read stands at
-// `place`. Answers the file's length afterwards.
+// Carries out a record for which no reason holds, by its fields, on the file that fills the first `len` bytes of the
+// buffer and whose read stands at `place`. Answers the file's length afterwards.
 pub fn apply(buffer: &mut [u8], len: usize, place: usize, fields: Fields, record: &[u8]) -> usize
     requires { ⌜ len ≤ length (now buffer) ⌝ }
     requires { ⌜ fileTest (take len (now buffer)) ≡ Accepted ⌝ }

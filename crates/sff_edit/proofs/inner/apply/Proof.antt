@@ -1,4 +1,4 @@
--- Each kind's edit leaves the file written afresh: what it asks, and what that is, are laws of InPlace over what is known at the start.
+-- The edit of each kind leaves the file written afresh, by InPlace over what is known at the start.
 use mathlib.Core.Path.{sym, ap, _∙_}
 use native.Mathlib.Omega.{arith}
 use lib.ListN.{length}

@@ -1,10 +1,11 @@
 -- The promises of the four writes, one after another.
+use Rattle.sff_edit.proofs.InPlace.{clips-put}
 use borrow.Author.Needs.{needs}
 use Rattle.sff_edit.proofs.inner.put_clips.Statement.{statement}
 use Rattle.sff_edit.proofs.inner.put_clips.Tie as tie
 
 returns : tie.Need-returns
-returns c = cc
+returns c = search (clips-put, needs)
 
 pub put-clips-spec : {M : Type 1} → statement M
 put-clips-spec =

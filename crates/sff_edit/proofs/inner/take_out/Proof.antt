@@ -1,10 +1,11 @@
 -- The promises of the cut and of the write, one after the other.
+use Rattle.sff_edit.proofs.InPlace.{read-cut}
 use borrow.Author.Needs.{needs}
 use Rattle.sff_edit.proofs.inner.take_out.Statement.{statement}
 use Rattle.sff_edit.proofs.inner.take_out.Tie as tie
 
 returns : tie.Need-returns
-returns c = (search needs, (cc))
+returns c = search (read-cut, needs)
 
 pub take-out-spec : {M : Type 1} → statement M
 take-out-spec =

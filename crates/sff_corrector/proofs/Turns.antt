@@ -1,7 +1,7 @@
 -- One record after another: what a carried-out record leaves for the next, and the loop over a list. Assumes nothing.
 use Prim.Native.Nat.{ℕ, suc, _+_, _-_, _*_, _/_, _%_, _≤_, _<_}
 use mathlib.Core.Path.{_≡_, refl, sym, ap, _∙_}
-use mathlib.Core.Bool.{true, not}
+use mathlib.Core.Bool.{Bool, true}
 use mathlib.Core.List.{List}
 use native.Mathlib.Omega.{arith}
 use native.Mathlib.Numerals.{add-one}
@@ -23,12 +23,15 @@ use Rattle.sff_format.proofs.Written.{layout-bytes}
 use Rattle.sff_format.proofs.Places.{place-found}
 use Rattle.sff_find.specs.declared.inner.Mark.{Mark}
 use Rattle.sff_correction.specs.declared.ListOutcome.{ListOutcome}
+use Rattle.sff_correction.specs.declared.Fields.{Fields}
 use Rattle.sff_correction.specs.Record.{position, recordTest}
+use Rattle.sff_correction.specs.Fields.{fieldsAt, asked}
 use Rattle.sff_correction.specs.RecordLayout.{parseRecord}
 use Rattle.sff_correction.specs.Edit.{edited}
 use Rattle.sff_correction.specs.Reasons.{positionAbove, reasons}
 use Rattle.sff_correction.specs.Correct.{correctTest, corrected, correctOutcome, over, correctBuffer}
 use Rattle.sff_correction.specs.ListRun.{recordAt, Run, ran, turns, runList}
+use Rattle.sff_correction.proofs.Asked.{own-asked}
 use Rattle.sff_correction.proofs.Edited.{reasons-position, place-kept}
 use Rattle.sff_correction.proofs.Carried.{refused-outcome, refused-buffer, done-outcome, done-buffer, done-fits, done-length, done-front, done-valid, done-accepted, done-parsed, test-file, test-reasons, test-from-20, test-from-file, test-from-21}
 use Rattle.sff_correction.proofs.ListTurns.{turn-on, turn-stop, list-20, list-run, list-none}
@@ -58,12 +61,14 @@ module _ (buffer : List ℕ) (len : ℕ) (r : List ℕ) where
       stop-file e t = sym (test-from-file buffer len r h q ∙ rw (← e, t))
 
       module _ (t : fileTest (take len buffer) ≡ Accepted) where
-        pub stop-21 : positionAbove (length buffer) (parseRecord r) (parse (take len buffer)) ≡ true → Refused 21 0 ≡ correctTest buffer len r
-        unfolding reasons
-        stop-21 g = sym (test-from-21 buffer len r h q t ∙ row-holds 21 _ _ g)
+        -- the record's own fields ask for what it says
+        module _ (x : Fields) (o : x ≡ fieldsAt (position r) r) where
+          pub stop-21 : {t : Bool} → ((room : ℕ) → t ≡ positionAbove room (asked x r) (parse (take len buffer))) → t ≡ true → Refused 21 0 ≡ correctTest buffer len r
+          unfolding reasons
+          stop-21 f g = sym (test-from-21 buffer len r h q t ∙ row-holds 21 _ _ (rw (← own-asked x r o) (sym (f (length buffer)) ∙ g)))
 
-        pub reasons-are : {a : Answer} → a ≡ reasons (length buffer) (parseRecord r) (parse (take len buffer)) → a ≡ correctTest buffer len r
-        reasons-are e = e ∙ sym (test-from-21 buffer len r h q t)
+          pub reasons-are : {a : Answer} → a ≡ reasons (length buffer) (asked x r) (parse (take len buffer)) → a ≡ correctTest buffer len r
+          reasons-are e = rw (own-asked x r o) at e ∙ sym (test-from-21 buffer len r h q t)
 
   -- what is told of one that is carried out, and what it leaves for the next
   module _ (e : Accepted ≡ correctTest buffer len r) where

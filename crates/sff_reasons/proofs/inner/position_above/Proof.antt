@@ -8,13 +8,21 @@ use Rattle.sff_reasons.proofs.inner.position_above.Statement.{statement
 use Rattle.sff_reasons.proofs.inner.position_above.Tie as tie
 
 get32-requires : tie.Need-get32-requires
-get32-requires c κs = let h = fits-31 _ (head-ok _ (c .before .before .before .pre)) in omega arith
+get32-requires c κs = let h = fits-31 _ (head-ok _ (c .before .before .pre)) in omega arith
 
 returns : tie.Need-returns
-returns c room = below-told _ _ _ room (let e = c .before .get32 .ensures .0 in let h = c .if1 .taken in omega arith)
+returns c room =
+    let a = c .before .before .before .before .before .args in
+    let e = c .before .before .get32 .ensures .0 in
+    let h = c .if1 .taken in
+    below-told (a .s .now) (a .«record» .now) (a .fields) room (omega arith)
 
 returns-2 : tie.Need-returns-2
-returns-2 c room = above-told _ _ _ room (let e = c .before .get32 .ensures .0 in let h = c .if1 .left in omega arith)
+returns-2 c room =
+    let a = c .before .before .before .before .before .args in
+    let e = c .before .before .get32 .ensures .0 in
+    let h = c .if1 .left in
+    above-told (a .s .now) (a .«record» .now) (a .fields) room (omega arith)
 
 pub position-above-spec : {M : Type 1} → statement M
 position-above-spec = tie.close (tie.spec get32-requires returns returns-2)

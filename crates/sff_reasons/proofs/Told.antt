@@ -34,7 +34,7 @@ use Rattle.sff_correction.specs.RecordLayout.{changeIn}
 use Rattle.sff_correction.specs.Fields.{asked}
 use Rattle.sff_correction.specs.Edit.{target, edited}
 use Rattle.sff_correction.specs.Reasons.{hasTarget, clipsAbove, others, bears, takesName, positionAbove, otherName, indexPresent, clipAbove, nameBorne, noRoom}
-use Rattle.sff_correction.proofs.Asked.{kind-of, clips-asked, rename-asked, new-length-of}
+use Rattle.sff_correction.proofs.Asked.{kind-of, clips-asked, rename-asked, new-length-of, old-inside, new-inside}
 use Rattle.sff_correction.proofs.EditedSizes.{clips-size, name-size, none-size}
 use Rattle.sff_reasons.specs.Found.{Found}
 
@@ -78,6 +78,9 @@ module _ {b r : List ℕ} {x : Fields} (s : Found b r x) where
 
   pub found-header : 31 ≤ length b
   found-header = fits-31 b (head-ok b (s .accepted))
+
+  pub found-lengths : (x .«old_length» ≤ 40) × (x .«new_length» ≤ 40)
+  found-lengths = (old-inside x r (s .fields-of) (s .formed), new-inside x r (s .fields-of) (s .formed))
 
   module _ (room : ℕ) where
     -- 21

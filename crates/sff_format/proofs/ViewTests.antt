@@ -21,7 +21,7 @@ use Rattle.sff_format.specs.ReadTest.{readTest}
 use Rattle.sff_format.specs.View.{viewAt, bytesIn, viewFirst, viewLast, insertIn, insertOutside, viewTest}
 use Rattle.sff_format.specs.Step.{State, Step, found, stop, boundary, stepTest, step}
 use Rattle.sff_format.proofs.HeaderLaws.{characters-length}
-use Rattle.sff_format.proofs.ReadLaid.{section-is, section-fits, data-fits}
+use Rattle.sff_format.proofs.ReadLaid.{name-fits, data-fits}
 use Rattle.sff_format.proofs.Inserted.{first-least, limits}
 use Rattle.sff_format.proofs.Steps.{step-found, step-stop, header-accepted, read-accepted}
 
@@ -81,7 +81,7 @@ module _ (b : List ℕ) (v : ReadView) (e : viewTest b v ≡ Accepted) where
 module _ (characters b : List ℕ) (p : ℕ) (y : Bytes b) (e : readTest characters b p ≡ Accepted) where
   name-inside : let v = viewAt (length characters) b p in v .name .at + v .name .size ≤ length b
   unfolding viewAt
-  name-inside = let s = section-is characters b p e in let f = section-fits characters b p e in omega arith
+  name-inside = name-fits characters b p e
 
   data-inside :
       let v = viewAt (length characters) b p in

@@ -12,15 +12,12 @@ use Rattle.answers.specs.declared.Answer.the-variants.{Accepted}
 use Rattle.sff_format.specs.ReadTest.{sectionLength, nameLength, baseCount, readTest}
 use Rattle.sff_format.specs.Parse.{parseRead}
 use Rattle.sff_format.specs.View.{viewAt, bytesIn, viewRead}
-use Rattle.sff_format.proofs.ReadLaid.{section-is, section-fits, data-fits, read-valid}
+use Rattle.sff_format.proofs.ReadLaid.{name-fits, data-fits, read-valid}
 
 module _ (characters b : List ℕ) (p : ℕ) (e : readTest characters b p ≡ Accepted) where
   pub name-viewed : bytesIn b (viewAt (length characters) b p .name) ≡ parseRead (length characters) b p .name
   unfolding viewAt parseRead
-  name-viewed =
-      let s = section-is characters b p e in
-      let f = section-fits characters b p e in
-      whole-in (p + 16) (nameLength b p) b (omega arith)
+  name-viewed = whole-in (p + 16) (nameLength b p) b (name-fits characters b p e)
 
   -- a stretch of the data section lies in the file
   data-in : (q n : ℕ) → q + n ≤ p + sectionLength b p + (2 * length characters + 3 * baseCount b p) → wholePart q n b ≡ part q n b

@@ -47,15 +47,15 @@ module _ (characters b : List ℕ) (p : ℕ) where
     unfolding nameTest
     section-fits = under-ok _ _ _ _ (first-ok _ _ (second-ok _ _ name-ok))
 
+    pub name-fits : p + 16 + nameLength b p ≤ length b
+    name-fits = let s = section-is in let f = section-fits in omega arith
+
     name-length : length (part (p + 16) (nameLength b p) b) ≡ nameLength b p
-    name-length = let s = section-is in let f = section-fits in length-part (p + 16) (nameLength b p) b (omega arith)
+    name-length = length-part (p + 16) (nameLength b p) b name-fits
 
     name-good : Every isNameByte (part (p + 16) (nameLength b p) b)
     unfolding nameTest
-    name-good =
-        let s = section-is in
-        let f = section-fits in
-        scan-ok b (p + 16) (nameLength b p) _ _ refl (omega arith) isNameByte (first-ok _ _ (second-ok _ _ (second-ok _ _ name-ok)))
+    name-good = scan-ok b (p + 16) (nameLength b p) _ _ refl name-fits isNameByte (first-ok _ _ (second-ok _ _ (second-ok _ _ name-ok)))
 
     name-padding : Every isZero (part (p + 16 + nameLength b p) (sectionLength b p - (16 + nameLength b p)) b)
     unfolding nameTest

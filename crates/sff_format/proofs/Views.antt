@@ -13,7 +13,7 @@ use Rattle.sff_format.specs.Model.{Read}
 use Rattle.sff_format.specs.ReadTest.{sectionLength, readTest}
 use Rattle.sff_format.specs.Parse.{parseRead}
 use Rattle.sff_format.specs.View.{viewAt, bytesIn, viewRead}
-use Rattle.sff_format.proofs.ReadLaid.{section-is, section-fits, data-fits, read-valid}
+use Rattle.sff_format.proofs.ReadLaid.{name-fits, data-fits, read-valid}
 
 module _ (characters b : List ℕ) (p : ℕ) (e : readTest characters b p ≡ Accepted) where
   abbrev view : ReadView
@@ -25,7 +25,7 @@ module _ (characters b : List ℕ) (p : ℕ) (e : readTest characters b p ≡ Ac
   -- what it names lies in the file
   pub name-inside : view .name .at + view .name .size ≤ length b
   unfolding viewAt
-  name-inside = let s = section-is characters b p e in let f = section-fits characters b p e in omega arith
+  name-inside = name-fits characters b p e
 
   pub data-inside : (view .values .at + view .values .size ≤ length b) × (view .increments .at + view .increments .size ≤ length b)
       × (view .bases .at + view .bases .size ≤ length b) × (view .qualities .at + view .qualities .size ≤ length b)

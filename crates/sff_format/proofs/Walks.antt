@@ -23,7 +23,7 @@ use Rattle.sff_format.specs.Places.{noRead, readAt, placeFrom, readPlace
 use Rattle.sff_format.specs.Walk.{firstBoundary, readStart, nextBoundary, boundaryAfter, startAfter, boundaryAt, Walk}
 use Rattle.sff_format.proofs.Sizes.{size-least}
 use Rattle.sff_format.proofs.HeaderLaws.{header-fits, index-good}
-use Rattle.sff_format.proofs.ReadLaid.{fits-16, section-is, section-fits}
+use Rattle.sff_format.proofs.ReadLaid.{fits-16, name-fits}
 use Rattle.sff_format.proofs.Boundaries.{here-told, none-due, accepted-read, no-past, no-pass, past, pass}
 use Rattle.sff_format.proofs.FileLaid.{pending-laid, head-ok, sections-ok, reads-counted}
 use Rattle.sff_format.proofs.Places.{parse-at}
@@ -63,10 +63,7 @@ module _ {b : List ℕ} {k : ℕ} {at : Boundary} (w : Walk b k at) where
       walk-begins = fits-16 (flowCharacters b) b (here .place) walk-accepted
 
       pub walk-name : here .place + 16 + nameLength b (here .place) ≤ length b
-      walk-name =
-          let s = section-is (flowCharacters b) b (here .place) walk-accepted in
-          let f = section-fits (flowCharacters b) b (here .place) walk-accepted in
-          omega arith
+      walk-name = name-fits (flowCharacters b) b (here .place) walk-accepted
 
       pub walk-read : readAt (parse b) k ≡ parseRead (flows b) b (here .place)
       unfolding parse readPlace

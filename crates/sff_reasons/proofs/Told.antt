@@ -2,7 +2,7 @@
 use Prim.Native.Nat.{ℕ, _+_, _-_, _*_, _≤_, _<_}
 use mathlib.Core.Path.{_≡_, refl, sym, ap, _∙_}
 use mathlib.Core.Bool.{Bool, true, false, not}
-use mathlib.Core.List.{List, []}
+use mathlib.Core.List.{List}
 use native.Mathlib.Omega.{arith}
 use borrow.Author.Tests.{not-false, ltb-true, ltb-false, lt-ltb, le-ltb, ne-eqb}
 use lib.Dec.{ltb, eqb}
@@ -21,20 +21,20 @@ use Rattle.sff_format.specs.HeaderTest.{indexOffset, indexLength, readCount, fl
 use Rattle.sff_format.specs.ReadTest.{sectionLength, nameLength, baseCount, clipTest, readTest}
 use Rattle.sff_format.specs.Parse.{parseRead, parse}
 use Rattle.sff_format.specs.Places.{readPlace}
-use Rattle.sff_format.proofs.HeaderLaws.{fits-31, characters-length}
+use Rattle.sff_format.proofs.HeaderLaws.{characters-length}
 use Rattle.sff_format.proofs.Indexes.{index-length}
-use Rattle.sff_format.proofs.ReadLaid.{fits-16, section-is, section-fits, data-fits}
+use Rattle.sff_format.proofs.ReadLaid.{fits-16, section-is, section-fits, name-fits, data-fits}
 use Rattle.sff_format.proofs.FileLaid.{head-ok, reads-counted, index-passed, file-laid}
 use Rattle.sff_format.proofs.Places.{read-found}
 use Rattle.sff_format.proofs.Positions.{read-accepted}
 use Rattle.sff_correction.specs.declared.Fields.{Fields}
 use Rattle.sff_correction.specs.Record.{kind, oldName, newName, newQualityLeft, newQualityRight, newAdapterLeft, newAdapterRight}
-use Rattle.sff_correction.specs.Correction.{Change, Correction, clips, rename, remove, isClips}
+use Rattle.sff_correction.specs.Correction.{Change, clips, rename, remove, isClips}
 use Rattle.sff_correction.specs.RecordLayout.{changeIn}
 use Rattle.sff_correction.specs.Fields.{asked}
 use Rattle.sff_correction.specs.Edit.{target, edited}
 use Rattle.sff_correction.specs.Reasons.{hasTarget, clipsAbove, others, bears, takesName, positionAbove, otherName, indexPresent, clipAbove, nameBorne, noRoom}
-use Rattle.sff_correction.proofs.Asked.{kind-of, clips-asked, rename-asked, new-length-of}
+use Rattle.sff_correction.proofs.Asked.{kind-of, clips-asked, rename-asked, new-length-of, old-inside, new-inside}
 use Rattle.sff_correction.proofs.EditedSizes.{clips-size, name-size, none-size}
 use Rattle.sff_reasons.specs.Found.{Found}
 
@@ -90,8 +90,8 @@ module _ {b r : List ℕ} {x : Fields} (s : Found b r x) where
   laid : length (layout (parse b)) ≡ length b
   laid = ap length (file-laid b (s .bytes) (s .accepted))
 
-  pub found-header : 31 ≤ length b
-  found-header = fits-31 b (head-ok b (s .accepted))
+  pub found-lengths : (x .«old_length» ≤ 40) × (x .«new_length» ≤ 40)
+  found-lengths = (old-inside x r (s .fields-of) (s .formed), new-inside x r (s .fields-of) (s .formed))
 
   module _ (room : ℕ) where
     -- 21
@@ -143,7 +143,7 @@ module _ {b r : List ℕ} {x : Fields} (s : Found b r x) where
     found-section = section-fits (flowCharacters b) b p there
 
     pub found-name : p + 16 + nameLength b p ≤ length b
-    found-name = let e = section-is (flowCharacters b) b p there in let f = found-section in omega arith
+    found-name = name-fits (flowCharacters b) b p there
 
     name-is : target (asked x r) (parse b) .name ≡ part (p + 16) (nameLength b p) b
     unfolding parseRead

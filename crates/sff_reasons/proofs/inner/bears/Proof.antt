@@ -1,5 +1,6 @@
 -- At each turn the reads at the boundary and after it decide.
-use Prim.Native.Nat.{_-_, _<_}
+use Prim.Native.Nat.{ℕ, _-_, _<_}
+use mathlib.Core.List.{List}
 use native.Mathlib.Omega.{arith}
 use Rattle.sff_format.specs.HeaderTest.{readCount}
 use Rattle.sff_format.proofs.HeaderLaws.{fits-31}
@@ -23,8 +24,11 @@ header-fields-requires c κs = fits-31 _ (head-ok _ (c .before .before .pre))
 loop-holds : tie.Need-loop-holds Inv-loop μ-loop
 loop-holds c = sought-start _ _ _ (c .before .before .before .before .pre) (c .first-boundary .ensures)
 
+abbrev file : tie.After-first-boundary Inv-loop μ-loop → List ℕ
+file d = d .before .before .before .before .args .s .now
+
 -- a read stands past any index
-remains : (c : tie.After-past-index Inv-loop μ-loop) → c .before .before .before .loop .behind < readCount (c .before .before .before .before .before .before .before .before .args .s .now)
+remains : (c : tie.After-past-index Inv-loop μ-loop) → c .before .before .before .loop .behind < readCount (file (c .before .before .before .before))
 remains c = rw (reads-of _ _ (c .before .before .before .before .before .header-fields .ensures .0)) (c .before .if1 .taken)
 
 has-name-requires : tie.Need-has-name-requires Inv-loop μ-loop
@@ -52,4 +56,19 @@ returns-2 c =
     sought-none (l .loop .inv) (rw (reads-of _ _ (l .before .before .header-fields .ensures .0)) (c .if1 .left))
 
 pub bears-spec : {M : Type 1} → statement M
-bears-spec = tie.close (tie.spec Inv-loop μ-loop header-fields-requires (λ c κs. search needs) loop-holds (λ c κs. search needs) has-name-requires returns next-boundary-requires (λ c. search needs) (λ c. search needs) loop-again returns-2)
+bears-spec =
+    tie.close
+    (tie.spec
+    Inv-loop
+    μ-loop
+    header-fields-requires
+    (λ c κs. search needs)
+    loop-holds
+    (λ c κs. search needs)
+    has-name-requires
+    returns
+    next-boundary-requires
+    (λ c. search needs)
+    (λ c. search needs)
+    loop-again
+    returns-2)

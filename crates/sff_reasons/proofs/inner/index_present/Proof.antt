@@ -1,6 +1,8 @@
 -- The header's index fields are asked for a rename or a removal.
+use Rattle.sff_format.proofs.HeaderLaws.{fits-31}
+use Rattle.sff_format.proofs.FileLaid.{head-ok}
 use Rattle.sff_header.proofs.Fields.{offset-of, index-length-of}
-use Rattle.sff_reasons.proofs.Told.{found-header, clips-pass, index-told}
+use Rattle.sff_reasons.proofs.Told.{clips-pass, index-told}
 use borrow.Author.Needs.{needs}
 use Rattle.sff_reasons.proofs.inner.index_present.Statement.{statement}
 use Rattle.sff_reasons.proofs.inner.index_present.Tie as tie
@@ -9,7 +11,7 @@ returns : tie.Need-returns
 returns c room = clips-pass (c .before .before .before .before .pre) room (c .if1 .taken)
 
 header-fields-requires : tie.Need-header-fields-requires
-header-fields-requires c κs = found-header (c .before .before .before .before .pre)
+header-fields-requires c κs = fits-31 _ (head-ok _ (c .before .before .before .before .pre .accepted))
 
 returns-2 : tie.Need-returns-2
 returns-2 c room =

@@ -1,8 +1,6 @@
 -- Only the header section of a renamed read may need more room than there is.
-use Prim.Native.Nat.{_+_, _≤_}
 use native.Mathlib.Omega.{arith}
-use Rattle.sff_correction.proofs.Asked.{new-inside}
-use Rattle.sff_reasons.proofs.Told.{found-begins, found-section, room-kept, room-told}
+use Rattle.sff_reasons.proofs.Told.{found-lengths, found-begins, found-section, room-kept, room-told}
 use borrow.Author.Needs.{needs}
 use Rattle.sff_reasons.proofs.inner.no_room.Statement.{statement}
 use Rattle.sff_reasons.proofs.inner.no_room.Tie as tie
@@ -20,14 +18,11 @@ add-result c =
     let k = c .get16 .ensures .0 in
     search needs
 
-short : (c : tie.After-struct-known2) → c .before .before .before .before .before .before .args .fields .«new_length» ≤ 40
-short c = let d = c .before .before .before .before .before .before in new-inside _ _ (d .pre .0 .fields-of) (d .pre .0 .formed)
-
 add-up8 : tie.Need-add-up8
-add-up8 c = let h = short c in search needs
+add-up8 c = let h = found-lengths (c .before .before .before .before .before .before .pre .0) in search needs
 
 up8-requires : tie.Need-up8-requires
-up8-requires c κs = let h = short c in omega arith
+up8-requires c κs = let h = found-lengths (c .before .before .before .before .before .before .pre .0) in omega arith
 
 returns-2 : tie.Need-returns-2
 returns-2 c =

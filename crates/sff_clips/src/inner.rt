@@ -6,6 +6,7 @@ ghost use Rattle.sff_format.specs.ReadTest.{clipTest};
 ghost use Rattle.sff_format.specs.View.{viewStretch};
 use crate::first_base;
 use crate::last_base;
+use crate::later;
 use answers::Answer;
 use sff_format::ReadView;
 use sff_format::Stretch;
@@ -60,16 +61,10 @@ pub fn insert_stretch(view: ReadView) -> Stretch
     ensures { λ r. ⌜ r ≡ viewStretch view ⌝ }
 {
     let first = first_base(view);
-    let last = last_base(view);
-    let before = first.0 - 1;
-    if last.0 < before {
-        return Stretch {
-            at: before,
-            size: 0,
-        };
-    }
+    let before = BasePosition(first.0 - 1);
+    let end = later(last_base(view), before);
     Stretch {
-        at: before,
-        size: last.0 - before,
+        at: before.0,
+        size: end.0 - before.0,
     }
 }

@@ -103,9 +103,6 @@ module _ (characters b : List ℕ) (p : ℕ) (y : Bytes b) (e : readTest charact
   pub qualities-inserted : insertIn view (bytesIn b (view .qualities)) ≡ insertOf read (read .qualities)
   qualities-inserted = rw (qualities-viewed characters b p e) (list-viewed (read .qualities) (valid .qualities-count))
 
-  pub insert-size : length (insertIn view (bytesIn b (view .bases))) ≡ viewStretch view .size
-  insert-size = rw (insert-viewed, first-viewed, last-viewed) (length-insert valid (read .bases) refl)
-
   -- of a stretch of the file with an entry for each base it is a part of the file
   pub insert-part : (x : Stretch) → x .size ≡ view .bases .size → x .at + x .size ≤ length b
       → insertIn view (bytesIn b x) ≡ part (x .at + viewStretch view .at) (viewStretch view .size) b

@@ -13,7 +13,7 @@ pub mod FileLaid
 pub mod FileTaken
 pub mod Written
 pub mod Format
--- A file that keeps the rules with another read in the place of one.
+-- A file that keeps the rules with another read in the place of one, and without any set of its reads.
 pub mod Keeps
 -- A file at a read; what is handed out of a read, and its insert; a read by its position; reading on; a walk over the reads.
 pub mod Split

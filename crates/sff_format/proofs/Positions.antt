@@ -27,7 +27,8 @@ use Rattle.sff_format.proofs.Boundaries.{accepted-read}
 use Rattle.sff_format.proofs.FileLaid.{head-ok, sections-ok}
 use Rattle.sff_format.proofs.Places.{read-found}
 use Rattle.sff_format.proofs.Views.{data-inside}
-use Rattle.sff_format.proofs.Inserted.{first-viewed, last-viewed, insert-viewed, stretch-viewed, insert-size, insert-part}
+use Rattle.sff_format.proofs.Inserted.{first-viewed, last-viewed, insert-viewed, stretch-viewed, insert-part}
+use Rattle.sff_format.proofs.ViewTests.{insert-whole, read-view-accepted}
 
 -- the read that a walk from an accepted boundary finds is accepted
 pub place-accepted : (b : List ℕ) (n i p : ℕ) (q : Bool) → boundaryTest b n p q ≡ Accepted → i < n → readTest (flowCharacters b) b (placeFrom b i p q) ≡ Accepted
@@ -137,7 +138,7 @@ unfolding fileInsert fileFirst fileLast acceptedOr
 insert-length b i y = go (positionTest b i) refl
   where
     go : (a : Answer) → positionTest b i ≡ a → length (acceptedOr a (insertIn (viewOf b i) (bytesIn b (viewOf b i .bases))) []) ≡ suc (acceptedOr a (viewLast (viewOf b i)) 0) - acceptedOr a (viewFirst (viewOf b i)) 1
-    go Accepted e = rw (count b i e) at (insert-size (flowCharacters b) b (readPlace b i) y (there b i e))
+    go Accepted e = insert-whole b (viewOf b i) (rw (count b i e) at (read-view-accepted (flowCharacters b) b (readPlace b i) y (there b i e)))
     go (Refused n p) e = refl
 
 -- what the code asks for a signal summary, and what it answers

@@ -8,7 +8,7 @@ use native.Mathlib.Omega.{arith}
 use lib.ListN.{length}
 use lib.Dec.{leb, ltb}
 use borrow.Author.Tests.{leb-true, leb-false, ltb-false, le-ltb}
-use Rattle.octets.specs.Parts.{part, wholePart}
+use Rattle.octets.specs.Parts.{part}
 use Rattle.octets.specs.Numbers.{Bytes}
 use Rattle.octets.proofs.Lists.{length-part, whole-in, whole-none}
 use Rattle.answers.specs.declared.Answer.{Answer}
@@ -18,6 +18,7 @@ use Rattle.sff_format.specs.declared.Stretch.{Stretch}
 use Rattle.sff_format.specs.declared.ReadView.{ReadView}
 use Rattle.sff_format.specs.HeaderTest.{flows, flowCharacters}
 use Rattle.sff_format.specs.ReadTest.{readTest}
+use Rattle.sff_format.specs.Insert.{between}
 use Rattle.sff_format.specs.View.{viewAt, bytesIn, viewFirst, viewLast, viewStretch, insertIn, insertOutside, viewTest}
 use Rattle.sff_format.specs.Step.{State, Step, found, stop, boundary, stepTest, step}
 use Rattle.sff_format.proofs.HeaderLaws.{characters-length}
@@ -33,21 +34,12 @@ whole : (b : List ℕ) (x : Stretch) → x .at + x .size ≤ length b → Whole 
 whole b x h = let w = whole-in (x .at) (x .size) b h in (w, rw w (length-part (x .at) (x .size) b h))
 
 -- an insert that its test takes is empty, or lies within the bases l
-insert-length : (first last : ℕ) (l : List ℕ) → 1 ≤ first → (leb first last && ltb (length l) last) ≡ false
-    → length (wholePart (first - 1) (suc last - first) l) ≡ suc last - first
+insert-length : (first last : ℕ) (l : List ℕ) → 1 ≤ first → (leb first last && ltb (length l) last) ≡ false → length (bytesIn l (between first last)) ≡ suc last - first
 insert-length first last l o e = go (leb first last) refl e
   where
-    go : (t : Bool) → leb first last ≡ t → (t && ltb (length l) last) ≡ false
-        → length (wholePart (first - 1) (suc last - first) l) ≡ suc last - first
-    go true k f =
-        let h = leb-true first last k in
-        let m = ltb-false (length l) last f in
-        let i : first - 1 + (suc last - first) ≤ length l = omega arith in
-        rw (whole-in (first - 1) (suc last - first) l i) (length-part (first - 1) (suc last - first) l i)
-    go false k f =
-        let h = leb-false first last k in
-        let n : suc last - first ≡ 0 = omega arith in
-        rw (n, whole-none (first - 1) l)
+    go : (t : Bool) → leb first last ≡ t → (t && ltb (length l) last) ≡ false → length (bytesIn l (between first last)) ≡ suc last - first
+    go true k f = let h = leb-true first last k in let m = ltb-false (length l) last f in whole l (between first last) (omega arith) .1
+    go false k f = let h = leb-false first last k in let n : suc last - first ≡ 0 = omega arith in rw (n, whole-none (first - 1) l)
 
 module _ (b : List ℕ) (v : ReadView) (e : viewTest b v ≡ Accepted) where
   pub name-whole : Whole b (v .name)
@@ -86,7 +78,7 @@ module _ (characters b : List ℕ) (p : ℕ) (y : Bytes b) (e : readTest charact
       let o = first-least (v .«quality_left») (v .«adapter_left») in
       rw (le-ltb (v .bases .size) (viewLast v) (omega arith)) (and-false (leb (viewFirst v) (viewLast v)))
 
-  read-view-accepted : viewTest b (viewAt (length characters) b p) ≡ Accepted
+  pub read-view-accepted : viewTest b (viewAt (length characters) b p) ≡ Accepted
   unfolding viewTest
   read-view-accepted =
       let d = data-inside characters b p e in

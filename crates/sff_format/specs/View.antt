@@ -32,7 +32,7 @@ viewAt F b p =
       «adapter_right» = adapterRight b p;
     }
 
--- a stretch of the file, none of it where it does not lie in the file whole
+-- a stretch of the file, or of another list: none of it where it does not lie in the list whole
 abbrev pub bytesIn : List ℕ → Stretch → List ℕ
 bytesIn b x = wholePart (x .at) (x .size) b
 
@@ -50,7 +50,7 @@ viewRead b v = record {
   qualities = bytesIn b (v .qualities);
 }
 
--- the first and the last base of its insert, and the insert of a list with one entry for each base: none of it where it does not lie in the list whole
+-- the first and the last base of its insert, the stretch between them, and the insert of a list with one entry for each base
 abbrev pub viewFirst : ReadView → ℕ
 viewFirst v = firstBase (v .«quality_left») (v .«adapter_left»)
 

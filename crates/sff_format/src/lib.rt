@@ -1,7 +1,7 @@
 // The types that the definitions and the code share. There is no function here.
 use answers::Answer;
 
-// Bytes of a file: the place of the first, and how many.
+// Bytes of a file, or entries of a list: the place of the first, and how many.
 pub struct Stretch {
     pub at: usize,
     pub size: usize,

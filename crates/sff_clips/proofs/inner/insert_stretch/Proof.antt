@@ -1,29 +1,22 @@
--- There is a first base, and what is left from it on to the last is the stretch's size, 0 where the last comes before it.
-use Prim.Native.Nat.{ℕ, suc, _-_}
+-- There is a first base; what lies between the base before it and the last, or itself where that comes earlier, is the stretch's size.
+use Prim.Native.Nat.{suc, _-_}
 use mathlib.Core.Path.{_≡_}
 use native.Mathlib.Omega.{arith}
-use Rattle.sff_format.specs.Insert.{between}
 use Rattle.sff_format.proofs.Inserted.{first-least}
 use borrow.Author.Needs.{needs}
 use Rattle.sff_clips.proofs.inner.insert_stretch.Statement.{statement}
 use Rattle.sff_clips.proofs.inner.insert_stretch.Tie as tie
 
-sub-before : tie.Need-sub-before
-sub-before c = let v = c .before .before .before .args .view in let o = first-least (v .«quality_left») (v .«adapter_left») in omega arith
-
--- of the first and the last base as the code has them, and the size that it states
-is : {f l first last : ℕ} (size : ℕ) → first ≡ f → last ≡ l → suc last - first ≡ size → record { at = first - 1; size = size } ≡ between f l
-is size f l n = rw (← f, ← l, n)
+sub-t5 : tie.Need-sub-t5
+sub-t5 c = let v = c .before .before .args .view in let o = first-least (v .«quality_left») (v .«adapter_left») in omega arith
 
 returns : tie.Need-returns
-returns c = let l = c .before .before .before in is 0 (l .before .first-base .ensures) (l .last-base .ensures) (omega arith)
-
-returns-2 : tie.Need-returns-2
-returns-2 c =
-    let l = c .before .before .before .before in
-    let v = l .before .before .args .view in
-    let o = first-least (v .«quality_left») (v .«adapter_left») in
-    is _ (l .before .first-base .ensures) (l .last-base .ensures) (omega arith)
+returns c =
+    let l = c .before .before .before in
+    let f = l .before .before in
+    let o = first-least (f .before .args .view .«quality_left») (f .before .args .view .«adapter_left») in
+    let n : (c .before .before .later .result .0) - (f .first-base .result .0 - 1) ≡ suc (l .last-base .result .0) - (f .first-base .result .0) = omega arith in
+    rw (n, f .first-base .ensures, l .last-base .ensures)
 
 pub insert-stretch-spec : {M : Type 1} → statement M
-insert-stretch-spec = tie.close (tie.spec (λ c κs. search needs) (λ c κs. search needs) sub-before returns returns-2)
+insert-stretch-spec = tie.close (tie.spec (λ c κs. search needs) sub-t5 (λ c κs. search needs) (λ c κs. search needs) (λ c. search needs) returns)

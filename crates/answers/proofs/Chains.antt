@@ -55,8 +55,12 @@ module _ (n scan end : ℕ) {x : ℕ} (e : x ≡ scan) where
   reaches-last h = rw (← e, le-ltb x end h)
 
 -- a condition by what a call gave: s itself, or one of the numbers that it compares
-pub told : (s : Bool) {t v : Bool} → t ≡ s → t ≡ v → s ≡ v
-told s e f = sym e ∙ f
+module _ (s : Bool) {t v : Bool} (e : t ≡ s) where
+  pub told : t ≡ v → s ≡ v
+  told f = sym e ∙ f
+
+  pub not-told : not t ≡ v → not s ≡ v
+  not-told f = rw (← e) f
 
 module _ (x y : ℕ) where
   pub differ : (x ≡ y → ⊥) → not (eqb x y) ≡ true
@@ -102,6 +106,6 @@ pub or-neither : (s t : Bool) → s ≡ false → t ≡ false → (s || t) ≡ f
 or-neither s t e f = rw e f
 
 -- For `search`, which finds in what is known what the code's tests gave: every test hands on, and where one refuses.
-pub ruleset onward = (accepts, passes, passes-last, reaches, reaches-last, le-ltb, ne-eqb, same, told, told-not-under, told-same, not-under-told, same-told, or-neither)
+pub ruleset onward = (accepts, passes, passes-last, reaches, reaches-last, le-ltb, ne-eqb, same, told, not-told, told-not-under, told-same, not-under-told, same-told, or-neither)
 
 pub ruleset refusal = (onward, refuses, holds, holds-last, stops, stops-last, lt-ltb, eq-eqb, differ, told-under, told-differ, under-told, differ-told, or-first, or-second)

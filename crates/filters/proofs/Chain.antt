@@ -38,16 +38,13 @@ module _ (room : ℕ) (b : List ℕ) {f : Filter} (is : f ≡ filterAt b) where
 
 -- their conditions by what the calls gave
 module _ (s : Bool) {u : Bool} (e : u ≡ s) where
-  pub not-told : {w : Bool} → not u ≡ w → not s ≡ w
-  not-told h = rw (← e) h
-
   pub and-told : (t : Bool) {w : Bool} → (u && t) ≡ w → (s && t) ≡ w
   and-told t h = rw (← e) h
 
   pub neither-told : (t : Bool) {v w : Bool} → v ≡ t → (not u && not v) ≡ w → (not s && not t) ≡ w
   neither-told t f h = rw (← e, ← f) h
 
-pub ruleset judging = (known-at, layer-tested, block-tested, not-told, and-told, neither-told, needs)
+pub ruleset judging = (known-at, layer-tested, block-tested, and-told, neither-told, needs)
 
 -- a block that passed its tests can be opened
 opens : (room n : ℕ) (b : List ℕ) → contentsTest (filterAt b) room b ≡ Accepted → room ≤ n → Opens (filterAt b) b n

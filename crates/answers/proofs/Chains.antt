@@ -1,7 +1,8 @@
 -- A chain of tests met one test at a time, as code makes them: one that refuses ends the chain, one that accepts hands on. Assumes nothing.
-use Prim.Native.Nat.{ℕ, _≤_, _<_}
+use Prim.Native.Nat.{ℕ, _+_, _-_, _≤_, _<_}
 use mathlib.Core.Path.{_≡_, sym, ap, _∙_}
 use mathlib.Core.Bool.{Bool, true, false, not, _||_}
+use native.Mathlib.Omega.{arith}
 use lib.Dec.{ltb, eqb}
 use borrow.Author.Tests.{lt-ltb, le-ltb, eq-eqb, ne-eqb}
 use Rattle.answers.specs.declared.Answer.{Answer}
@@ -55,8 +56,12 @@ module _ (n scan end : ℕ) {x : ℕ} (e : x ≡ scan) where
   reaches-last h = rw (← e, le-ltb x end h)
 
 -- a condition by what a call gave: s itself, or one of the numbers that it compares
-pub told : (s : Bool) {t v : Bool} → t ≡ s → t ≡ v → s ≡ v
-told s e f = sym e ∙ f
+module _ (s : Bool) {t v : Bool} (e : t ≡ s) where
+  pub told : t ≡ v → s ≡ v
+  told f = sym e ∙ f
+
+  pub not-told : not t ≡ v → not s ≡ v
+  not-told f = rw (← e) f
 
 module _ (x y : ℕ) where
   pub differ : (x ≡ y → ⊥) → not (eqb x y) ≡ true
@@ -101,7 +106,18 @@ or-second s t e f = rw e f
 pub or-neither : (s t : Bool) → s ≡ false → t ≡ false → (s || t) ≡ false
 or-neither s t e f = rw e f
 
+-- a sum against a limit m, tested so that no sum wraps: the first summand, then the other against what that leaves
+module _ (m f k : ℕ) where
+  pub over-first : m < f → ltb m (f + k) ≡ true
+  over-first h = lt-ltb m (f + k) (omega arith)
+
+  pub over-second : f ≤ m → m - f < k → ltb m (f + k) ≡ true
+  over-second h l = lt-ltb m (f + k) (omega arith)
+
+  pub not-over : f ≤ m → k ≤ m - f → ltb m (f + k) ≡ false
+  not-over h l = le-ltb m (f + k) (omega arith)
+
 -- For `search`, which finds in what is known what the code's tests gave: every test hands on, and where one refuses.
-pub ruleset onward = (accepts, passes, passes-last, reaches, reaches-last, le-ltb, ne-eqb, same, told, told-not-under, told-same, not-under-told, same-told, or-neither)
+pub ruleset onward = (accepts, passes, passes-last, reaches, reaches-last, le-ltb, ne-eqb, same, told, not-told, told-not-under, told-same, not-under-told, same-told, or-neither)
 
 pub ruleset refusal = (onward, refuses, holds, holds-last, stops, stops-last, lt-ltb, eq-eqb, differ, told-under, told-differ, under-told, differ-told, or-first, or-second)

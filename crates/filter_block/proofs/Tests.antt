@@ -11,12 +11,13 @@ use lib.ListN.{length, drop, length-drop}
 use lib.Seq.{take-all}
 use Rattle.octets.specs.Parts.{part}
 use Rattle.answers.specs.declared.Answer.the-variants.{Accepted, Refused}
-use Rattle.answers.specs.Answer.{when, _then_}
+use Rattle.answers.specs.Answer.{when}
+use Rattle.answers.proofs.Chains.{holds, passes, passes-last}
 use Rattle.filter_format.specs.declared.Filter.{Filter}
 use Rattle.filter_format.specs.declared.Filter.the-variants.{Raw, Delta, Narrow, Follow, Other}
 use Rattle.filter_format.specs.Units.{IsWidth}
 use Rattle.filter_format.specs.Narrow.{lacking}
-use Rattle.filter_format.specs.Block.{headerLength, levelAt, followAt, dataAt, badHeader, badData, decoded, undone, contentsTest}
+use Rattle.filter_format.specs.Block.{headerLength, levelAt, followAt, dataAt, badData, decoded, undone}
 use Rattle.filter_format.proofs.Blocks.{none-lacking, length-raw, length-delta-undone, decoded-narrow, length-follow-undone}
 use Rattle.filter_narrow.specs.declared.Counted.the-variants.{Units, Lacking}
 use Rattle.filter_narrow.specs.Counted.{begun, counted}
@@ -29,13 +30,11 @@ part-end n b = take-all (length b - n) (drop n b) (let e = length-drop n b in om
 
 -- the room, by the number of units
 module _ (n w room : ℕ) (positive : 0 < w) where
-  pub units-over : room / w < n → Refused 26 0 ≡ when (ltb room (n * w)) 26 0
-  unfolding when
-  units-over h = rw (lt-ltb room (n * w) (div-lt-iff-lt-mul positive .0 h))
+  pub units-over : room / w < n → ltb room (n * w) ≡ true
+  units-over h = lt-ltb room (n * w) (div-lt-iff-lt-mul positive .0 h)
 
-  pub units-fit : n ≤ room / w → Accepted ≡ when (ltb room (n * w)) 26 0
-  unfolding when
-  units-fit h = rw (le-ltb room (n * w) (le-div-iff-mul-le positive .0 h))
+  pub units-fit : n ≤ room / w → ltb room (n * w) ≡ false
+  units-fit h = le-ltb room (n * w) (le-div-iff-mul-le positive .0 h)
 
 module _ (f : Filter) (room : ℕ) (b : List ℕ) where
   data-length : length (dataAt f b) ≡ length b - headerLength f
@@ -43,12 +42,12 @@ module _ (f : Filter) (room : ℕ) (b : List ℕ) where
 
   -- data that are refused, and data that are not
   data-bad : badData f (dataAt f b) ≡ true → Refused 43 0 ≡ dataTest f room b
-  unfolding dataTest when _then_
-  data-bad e = rw e
+  unfolding dataTest
+  data-bad e = holds _ _ _ _ e
 
   data-good : (n : ℕ) → badData f (dataAt f b) ≡ false → length (undone f b) ≡ n → when (ltb room n) 26 0 ≡ dataTest f room b
-  unfolding dataTest when _then_
-  data-good n e l = rw (e, l)
+  unfolding dataTest
+  data-good n e l = passes _ _ _ _ e (rw l)
 
 -- what a count tells
 lacking-told : (t : Bool) (m : ℕ) → Lacking ≡ cond t Lacking (Units m) → t ≡ true
@@ -69,8 +68,8 @@ module _ (room : ℕ) (b : List ℕ) where
   follow-data = data-good Follow room b (length b - 257) refl (length-follow-undone (levelAt b) (followAt b) (drop 257 b) ∙ length-drop 257 b)
 
   pub other-data : Accepted ≡ dataTest Other room b
-  unfolding undone badData decoded when
-  other-data = ap (λ (t : Bool). when t 26 0) (sym (le-ltb room 0 (omega arith))) ∙ data-good Other room b 0 refl refl
+  unfolding undone badData decoded
+  other-data = passes-last _ _ _ (le-ltb room 0 (omega arith)) ∙ data-good Other room b 0 refl refl
 
   module _ (w n : ℕ) (e : n ≡ length b - headerLength (Delta w)) where
     long : length (dataAt (Delta w) b) ≡ n
@@ -98,17 +97,3 @@ module _ (room : ℕ) (b : List ℕ) where
         let k = units-told (ltb 0 (lacking w 0 (drop 1 b))) n (begun w 0 (drop 1 b)) e in
         data-good (Narrow w) room b (n * w) (k .0)
         (ap length (decoded-narrow (levelAt b) (followAt b) (drop 1 b) w) ∙ length-widened w (drop 1 b) (none-lacking w (drop 1 b) (k .0)) ∙ ap (λ (x : ℕ). x * w) (sym (k .1)))
-
--- the tests from the header on
-module _ (f : Filter) (room : ℕ) (b : List ℕ) where
-  pub header-cut : length b < headerLength f → Refused 40 0 ≡ contentsTest f room b
-  unfolding contentsTest when _then_
-  header-cut h = rw (lt-ltb (length b) (headerLength f) h)
-
-  pub header-bad : headerLength f ≤ length b → badHeader f b ≡ true → Refused 42 0 ≡ contentsTest f room b
-  unfolding contentsTest when _then_
-  header-bad h e = rw (le-ltb (length b) (headerLength f) h, e)
-
-  pub header-good : headerLength f ≤ length b → badHeader f b ≡ false → dataTest f room b ≡ contentsTest f room b
-  unfolding contentsTest dataTest when _then_
-  header-good h e = rw (le-ltb (length b) (headerLength f) h, e)

@@ -1,11 +1,10 @@
--- The tests of a block as the code makes them, and what undoing comes to by them. Assumes nothing.
+-- The tests of a block by what the code was told, and what undoing comes to by them. Assumes nothing.
 use Prim.Native.Nat.{ℕ, zero, suc, _-_, _<_, _≤_}
 use mathlib.Core.Path.{_≡_, refl, sym, subst}
 use mathlib.Core.Bool.{Bool, true, false, not, _&&_}
 use mathlib.Core.List.{List}
 use native.Mathlib.Omega.{arith}
 use borrow.Author.Needs.{needs}
-use borrow.Author.Tests.{eq-eqb, ne-eqb}
 use lib.Dec.{eqb}
 use lib.ListN.{length, take, getD}
 use Rattle.octets.specs.Parts.{part}
@@ -25,41 +24,27 @@ use Rattle.filter_block.specs.Tests.{Opens}
 pub known-at : (f : Filter) (b : List ℕ) → f ≡ filterAt b → Known f
 known-at f b e = subst Known (sym e) (known (getD b 0 0))
 
--- the tests of a block and of a layer as the code makes them, one after another
-module _ (b : List ℕ) (room : ℕ) where
-  pub block-none : (left : ℕ) → length b ≡ 0 → Refused 40 0 ≡ blockTest left room b
-  unfolding blockTest when _then_
-  block-none left e = rw (eq-eqb (length b) 0 e)
+-- the tests of a block and of a layer by the filter f that the code was given
+module _ (room : ℕ) (b : List ℕ) {f : Filter} (is : f ≡ filterAt b) where
+  pub layer-tested : {x : Answer} → x ≡ (when (eqb (length b) 0) 40 0 then when (not (isFilter f)) 41 0 then contentsTest f room b) → x ≡ layerTest room b
+  unfolding layerTest
+  layer-tested e = rw (← is) e
 
-  pub layer-none : length b ≡ 0 → Refused 40 0 ≡ layerTest room b
-  unfolding layerTest when _then_
-  layer-none e = rw (eq-eqb (length b) 0 e)
+  pub block-tested : (left : ℕ) {x : Answer}
+      → x ≡ (when (eqb (length b) 0) 40 0 then when (not (isRaw f) && not (isFilter f)) 41 0 then when (isFilter f && eqb left 0) 44 0 then contentsTest f room b)
+      → x ≡ blockTest left room b
+  unfolding blockTest
+  block-tested left e = rw (← is) e
 
-  -- the code was told whether its filter f is a filter, and of a block also whether it is format 0
-  module _ (some : length b ≡ 0 → ⊥) (f : Filter) (is : f ≡ filterAt b) (filters : Bool) (is-filter : filters ≡ isFilter f) where
-    pub layer-other : not filters ≡ true → Refused 41 0 ≡ layerTest room b
-    unfolding layerTest when _then_
-    layer-other e = rw (ne-eqb (length b) 0 some, ← is, ← is-filter, e)
+-- their conditions by what the calls gave
+module _ (s : Bool) {u : Bool} (e : u ≡ s) where
+  pub and-told : (t : Bool) {w : Bool} → (u && t) ≡ w → (s && t) ≡ w
+  and-told t h = rw (← e) h
 
-    pub layer-contents : (answer : Answer) → not filters ≡ false → answer ≡ contentsTest f room b → answer ≡ layerTest room b
-    unfolding layerTest when _then_
-    layer-contents answer e a = rw (ne-eqb (length b) 0 some, ← is, ← is-filter, e) a
+  pub neither-told : (t : Bool) {v w : Bool} → v ≡ t → (not u && not v) ≡ w → (not s && not t) ≡ w
+  neither-told t f h = rw (← e, ← f) h
 
-    module _ (left : ℕ) (raw : Bool) (is-raw : raw ≡ isRaw f) where
-      pub block-other : (not raw && not filters) ≡ true → Refused 41 0 ≡ blockTest left room b
-      unfolding blockTest when _then_
-      block-other e = rw (ne-eqb (length b) 0 some, ← is, ← is-raw, ← is-filter, e)
-
-      pub block-ninth : (not raw && not filters) ≡ false → (filters && eqb left 0) ≡ true → Refused 44 0 ≡ blockTest left room b
-      unfolding blockTest when _then_
-      block-ninth o e = rw (ne-eqb (length b) 0 some, ← is, ← is-raw, ← is-filter, o, e)
-
-      pub block-contents : (answer : Answer) → (not raw && not filters) ≡ false → (filters && eqb left 0) ≡ false → answer ≡ contentsTest f room b
-          → answer ≡ blockTest left room b
-      unfolding blockTest when _then_
-      block-contents answer o e a = rw (ne-eqb (length b) 0 some, ← is, ← is-raw, ← is-filter, o, e) a
-
-pub ruleset judging = (known-at, block-none, block-other, block-ninth, block-contents, layer-none, layer-other, layer-contents, needs)
+pub ruleset judging = (known-at, layer-tested, block-tested, and-told, neither-told, needs)
 
 -- a block that passed its tests can be opened
 opens : (room n : ℕ) (b : List ℕ) → contentsTest (filterAt b) room b ≡ Accepted → room ≤ n → Opens (filterAt b) b n

@@ -1,15 +1,15 @@
 -- What each turn of the loops over increments and bases shows: k is a base position, f the flow position before it, x the one that its increment leads to. Assumes nothing.
 use Prim.Native.Nat.{ℕ, suc, _+_, _-_, _≤_, _<_}
-use mathlib.Core.Path.{_≡_, refl, sym, _∙_}
+use mathlib.Core.Path.{_≡_, refl, sym, ap, _∙_}
 use mathlib.Core.Bool.{Bool, true, false, not, _&&_}
 use mathlib.Core.List.{List}
 use native.Mathlib.Omega.{arith}
 use borrow.Author.Needs.{needs}
-use borrow.Author.Tests.{not-true, not-false, leb-true, lt-ltb, le-ltb}
+use borrow.Author.Tests.{not-true, not-false, leb-true}
 use lib.Dec.{leb}
 use lib.ListN.{length, drop, getD}
 use Rattle.answers.specs.declared.Answer.the-variants.{Accepted, Refused}
-use Rattle.answers.specs.Answer.{when, _then_}
+use Rattle.answers.proofs.Chains.{stops, stops-last, reaches, reaches-last}
 use Rattle.sff_format.specs.Rules.{isFlow, isCall, walkRun, callRun}
 use Rattle.sff_format.specs.ReadTest.{basesTest}
 use Rattle.sff_format.proofs.Loops.{walk-end, walk-stop, walk-on, calls-end, calls-stop, calls-on}
@@ -119,12 +119,11 @@ module _ {characters xs ys : List ℕ} {k f x stop : ℕ} (w : Stopped character
   whole e = omega (arith, e)
 
   pub answer-end : stop ≡ length xs → Accepted ≡ basesTest characters xs ys
-  unfolding basesTest _then_ when
+  unfolding basesTest
   answer-end h =
       let n : length xs < k = omega (arith, w .place, w .walked .low) in
-      let c : callRun characters 0 xs ys ≡ length ys = omega (arith, w .is, w .counts) in
-      let N = length xs + length ys in
-      rw (whole (walked-end (w .walked) n), c, le-ltb (length xs) (length xs) (omega arith), le-ltb N N (omega arith))
+      let c : length xs + length ys ≡ length xs + callRun characters 0 xs ys = omega (arith, w .is, w .counts) in
+      reaches _ _ _ (sym (whole (walked-end (w .walked) n))) _ (omega arith) (reaches-last _ _ _ c (omega arith))
 
   module _ (h : stop ≡ length xs → ⊥) where
     at-base : k ≤ length xs
@@ -133,11 +132,10 @@ module _ {characters xs ys : List ℕ} {k f x stop : ℕ} (w : Stopped character
     -- t is what the test of x gave
     module _ {t : Bool} (i : t ≡ isFlow (length characters) x) where
       pub answer-here : not t ≡ true → Refused 10 stop ≡ basesTest characters xs ys
-      unfolding basesTest _then_ when
+      unfolding basesTest
       answer-here g =
           let v = whole (walked-stop (w .walked) at-base (w .flow at-base) i g) in
-          let s : walkRun (length characters) 0 xs ≡ stop = omega (arith, v, w .place) in
-          rw (s, lt-ltb stop (length xs) (omega (arith, at-base, w .place, w .walked .low)))
+          stops _ _ _ (w .place ∙ sym v) _ (omega (arith, at-base, w .place, w .walked .low))
 
       pub walked-past : not t ≡ false → {k′ : ℕ} → k′ ≡ k + 1 → Walked (length characters) 0 1 xs k′ x
       walked-past g = walked-more (w .walked) at-base (w .flow at-base) i g
@@ -147,18 +145,17 @@ module _ {characters xs ys : List ℕ} {k f x stop : ℕ} (w : Stopped character
         {k′ walk : ℕ}
         (v : Walked (length characters) 0 1 xs k′ x)
         (e : walk ≡ k′ - 1 + walkRun (length characters) x (drop (k′ - 1) xs)) where
-      walk-is : walkRun (length characters) 0 xs ≡ walk
-      walk-is = whole (e ∙ sym (v .is))
+      walk-is : walk ≡ walkRun (length characters) 0 xs
+      walk-is = sym (whole (e ∙ sym (v .is)))
 
       pub answer-walk : walk < length xs → Refused 10 walk ≡ basesTest characters xs ys
-      unfolding basesTest _then_ when
-      answer-walk l = rw (walk-is, lt-ltb walk (length xs) l)
+      unfolding basesTest
+      answer-walk l = stops _ _ _ walk-is _ l
 
       pub answer-base : length xs ≤ walk → Refused 11 (length xs + stop) ≡ basesTest characters xs ys
-      unfolding basesTest _then_ when
+      unfolding basesTest
       answer-base l =
-          let p : length xs + stop < length xs + length ys = omega (arith, at-base, w .place, w .walked .low, w .counts) in
-          rw (walk-is, ← (w .is), le-ltb walk (length xs) l, lt-ltb (length xs + stop) (length xs + length ys) p)
+          reaches _ _ _ walk-is _ l (stops-last _ _ _ (ap (_+_ (length xs)) (w .is)) (omega (arith, at-base, w .place, w .walked .low, w .counts)))
 
 -- what `search` needs for the walk
 pub ruleset walking = (walked-start, walked-end, walked-stop, walked-more, needs)

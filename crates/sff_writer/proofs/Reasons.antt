@@ -36,17 +36,6 @@ use Rattle.sff_sections.proofs.Sections.{length-read, length-new}
 pub own-told : (b : Answer) {a x : Answer} → x ≡ own a → a ≡ b → x ≡ own b
 own-told b e f = rw (← f) e
 
--- a sum above a limit m
-module _ (m f k : ℕ) where
-  pub over-first : m < f → ltb m (f + k) ≡ true
-  over-first h = lt-ltb m (f + k) (omega arith)
-
-  pub over-second : f ≤ m → m - f < k → ltb m (f + k) ≡ true
-  over-second h l = lt-ltb m (f + k) (omega arith)
-
-  pub not-over : f ≤ m → k ≤ m - f → ltb m (f + k) ≡ false
-  not-over h l = le-ltb m (f + k) (omega arith)
-
 -- one of two conditions that calls gave
 pub either-told : (s t : Bool) {u v w : Bool} → u ≡ s → v ≡ t → (u || v) ≡ w → (s || t) ≡ w
 either-told s t e f g = rw (← e, ← f) g

@@ -1,6 +1,6 @@
 use mathlib.Core.Path.{sym, _∙_}
 use native.Mathlib.Omega.{arith}
-use Rattle.answers.specs.Answer.{_then_}
+use Rattle.answers.proofs.Chains.{refuses}
 use Rattle.sff_format.specs.Position.{positionTest}
 use Rattle.sff_format.proofs.HeaderLaws.{fits-31}
 use Rattle.sff_format.proofs.FileLaid.{head-ok}
@@ -11,8 +11,8 @@ use Rattle.sff_find.proofs.position_test.Statement.{statement}
 use Rattle.sff_find.proofs.position_test.Tie as tie
 
 returns : tie.Need-returns
-unfolding positionTest _then_
-returns c = rw (← (c .before .before .file-test .ensures), c .enum-told2 .given .1)
+unfolding positionTest
+returns c = search refuses
 
 pub position-test-spec : {M : Type 1} → statement M
 position-test-spec =

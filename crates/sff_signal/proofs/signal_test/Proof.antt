@@ -1,6 +1,6 @@
 use mathlib.Core.Path.{sym, _∙_}
 use borrow.Author.Needs.{needs}
-use Rattle.answers.specs.Answer.{_then_}
+use Rattle.answers.proofs.Chains.{refuses}
 use Rattle.sff_format.specs.Position.{signalTest}
 use Rattle.sff_format.proofs.HeaderLaws.{fits-31}
 use Rattle.sff_format.proofs.FileLaid.{head-ok}
@@ -10,8 +10,8 @@ use Rattle.sff_signal.proofs.signal_test.Statement.{statement}
 use Rattle.sff_signal.proofs.signal_test.Tie as tie
 
 returns : tie.Need-returns
-unfolding signalTest _then_
-returns c = rw (← (c .before .before .position-test .ensures), c .enum-told2 .given .1)
+unfolding signalTest
+returns c = search refuses
 
 pub signal-test-spec : {M : Type 1} → statement M
 signal-test-spec =

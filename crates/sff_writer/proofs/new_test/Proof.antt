@@ -1,7 +1,7 @@
 -- The tests in their order, each by what the calls before it gave.
-use Rattle.answers.proofs.Chains.{refusal, onward}
+use Rattle.answers.proofs.Chains.{refusal, onward, over-first, over-second, not-over}
 use Rattle.sff_format.specs.Writing.{newTest}
-use Rattle.sff_writer.proofs.Reasons.{over-first, over-second, not-over, either-told, new-over, new-within}
+use Rattle.sff_writer.proofs.Reasons.{either-told, new-over, new-within}
 use borrow.Author.Needs.{needs}
 use Rattle.sff_writer.proofs.new_test.Statement.{statement}
 use Rattle.sff_writer.proofs.new_test.Tie as tie

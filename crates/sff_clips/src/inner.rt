@@ -6,8 +6,8 @@ ghost use Rattle.sff_format.specs.ReadTest.{clipTest};
 ghost use Rattle.sff_format.specs.View.{viewStretch};
 use crate::first_base;
 use crate::last_base;
-use crate::later;
 use answers::Answer;
+use octets::greatest;
 use sff_format::ReadView;
 use sff_format::Stretch;
 use sff_walk::BasePosition;
@@ -61,10 +61,10 @@ pub fn insert_stretch(view: ReadView) -> Stretch
     ensures { λ r. ⌜ r ≡ viewStretch view ⌝ }
 {
     let first = first_base(view);
-    let before = BasePosition(first.0 - 1);
-    let end = later(last_base(view), before);
+    let before = first.0 - 1;
+    let end = greatest(last_base(view).0, before);
     Stretch {
-        at: before.0,
-        size: end.0 - before.0,
+        at: before,
+        size: end - before,
     }
 }

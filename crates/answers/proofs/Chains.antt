@@ -1,7 +1,7 @@
 -- A chain of tests met one test at a time, as code makes them: one that refuses ends the chain, one that accepts hands on. Assumes nothing.
 use Prim.Native.Nat.{ℕ, _+_, _-_, _≤_, _<_}
 use mathlib.Core.Path.{_≡_, sym, ap, _∙_}
-use mathlib.Core.Bool.{Bool, true, false, not, _||_}
+use mathlib.Core.Bool.{Bool, true, false, not, _&&_, _||_}
 use native.Mathlib.Omega.{arith}
 use lib.Dec.{ltb, eqb}
 use borrow.Author.Tests.{lt-ltb, le-ltb, eq-eqb, ne-eqb}
@@ -63,6 +63,9 @@ module _ (s : Bool) {t v : Bool} (e : t ≡ s) where
   pub not-told : not t ≡ v → not s ≡ v
   not-told f = rw (← e) f
 
+  pub and-told : (r : Bool) → (t && r) ≡ v → (s && r) ≡ v
+  and-told r f = rw (← e) f
+
 module _ (x y : ℕ) where
   pub differ : (x ≡ y → ⊥) → not (eqb x y) ≡ true
   differ h = ap not (ne-eqb x y h)
@@ -117,7 +120,8 @@ module _ (m f k : ℕ) where
   pub not-over : f ≤ m → k ≤ m - f → ltb m (f + k) ≡ false
   not-over h l = le-ltb m (f + k) (omega arith)
 
--- For `search`, which finds in what is known what the code's tests gave: every test hands on, and where one refuses.
-pub ruleset onward = (accepts, passes, passes-last, reaches, reaches-last, le-ltb, ne-eqb, same, told, not-told, told-not-under, told-same, not-under-told, same-told, or-neither)
+-- For `search`, which finds what the code's tests gave: `onward` where each of them hands on, `refusal` where the last of them refuses.
+-- Each test on the way takes one of the search's depth.
+pub ruleset onward = (accepts, passes, passes-last, reaches, reaches-last, le-ltb, ne-eqb, same, told, not-told, and-told, told-not-under, told-same, not-under-told, same-told, or-neither)
 
 pub ruleset refusal = (onward, refuses, holds, holds-last, stops, stops-last, lt-ltb, eq-eqb, differ, told-under, told-differ, under-told, differ-told, or-first, or-second)

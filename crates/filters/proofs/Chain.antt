@@ -36,15 +36,11 @@ module _ (room : ℕ) (b : List ℕ) {f : Filter} (is : f ≡ filterAt b) where
   unfolding blockTest
   block-tested left e = rw (← is) e
 
--- their conditions by what the calls gave
-module _ (s : Bool) {u : Bool} (e : u ≡ s) where
-  pub and-told : (t : Bool) {w : Bool} → (u && t) ≡ w → (s && t) ≡ w
-  and-told t h = rw (← e) h
+-- neither of two conditions, by what calls gave
+pub neither-told : (s t : Bool) {u v w : Bool} → u ≡ s → v ≡ t → (not u && not v) ≡ w → (not s && not t) ≡ w
+neither-told s t e f h = rw (← e, ← f) h
 
-  pub neither-told : (t : Bool) {v w : Bool} → v ≡ t → (not u && not v) ≡ w → (not s && not t) ≡ w
-  neither-told t f h = rw (← e, ← f) h
-
-pub ruleset judging = (known-at, layer-tested, block-tested, and-told, neither-told, needs)
+pub ruleset judging = (known-at, layer-tested, block-tested, neither-told, needs)
 
 -- a block that passed its tests can be opened
 opens : (room n : ℕ) (b : List ℕ) → contentsTest (filterAt b) room b ≡ Accepted → room ≤ n → Opens (filterAt b) b n

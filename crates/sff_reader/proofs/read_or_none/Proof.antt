@@ -1,7 +1,5 @@
 -- With a read left it is tested; with none the end is, and where that is accepted the answer is 33.
-use mathlib.Core.Path.{_≡_}
-use Rattle.answers.specs.declared.Answer.the-variants.{Refused}
-use Rattle.answers.specs.Answer.{_then_}
+use Rattle.answers.proofs.Chains.{refuses, accepts}
 use Rattle.sff_format.specs.Step.{readOrNone}
 use Rattle.answers.proofs.Answers.{tests}
 use Rattle.sff_header.proofs.Fields.{reads-of, flows-of}
@@ -17,17 +15,12 @@ returns c = let d = c .before .before .before .before in
     search (tests, reads-of (d .args .header) _ e, flows-of (d .args .header) _ e, ← (c .read-test .ensures))
 
 returns-2 : tie.Need-returns-2
-unfolding readOrNone _then_
-returns-2 c = let d = c .before .before .before .before .before .before in
-    search (tests, reads-of (d .args .header) _ (d .pre .1 .0), ← (c .before .before .end-test .ensures), c .enum-told2 .given .1)
+unfolding readOrNone
+returns-2 c = let d = c .before .before .before .before .before .before in search (tests, refuses, reads-of (d .args .header) _ (d .pre .1 .0))
 
 returns-3 : tie.Need-returns-3
-unfolding readOrNone _then_
-returns-3 c = let d = c .before .before .before .before .before .before in
-    let a = d .args in
-    let none : Refused 33 (a .place) ≡ readOrNone (a .s .now) (a .place) (a .reads) (a .passed) =
-    search (tests, reads-of (a .header) _ (d .pre .1 .0), ← (c .before .before .end-test .ensures), c .enum-told .given .1) in
-    none
+unfolding readOrNone
+returns-3 c = let d = c .before .before .before .before .before .before in search (tests, accepts, reads-of (d .args .header) _ (d .pre .1 .0))
 
 pub read-or-none-spec : {M : Type 1} → statement M
 read-or-none-spec =

@@ -53,16 +53,6 @@ front xs l w = (let n = w .0 in omega arith, w .1)
 pub at-front : (xs l : List ℕ) {l′ : List ℕ} {r : ℕ} → (r ≡ length xs) × (l′ ≡ putAt 0 xs l) → Wrote 0 xs l l′ r
 at-front xs l w = (let n = w .0 in omega arith, w .1)
 
--- what an entry point promises where the text xs is put at the front of l: the count, the buffer, and that the count is one of its bytes
-abbrev pub Put : List ℕ → List ℕ → List ℕ → ℕ → Type 0
-Put xs l l′ n = (n ≡ length xs) × ((l′ ≡ putAt 0 xs l) × ((n ≤ length l′) × (n ≡ length (take n l′))))
-
-pub nothing-put : (l : List ℕ) → Put [] l l 0
-nothing-put l = (refl, (wrote-none 0 l .1, (omega arith, refl)))
-
-pub text-put : {xs l l′ : List ℕ} {n : ℕ} → Wrote 0 xs l l′ n → Room 0 xs l → Put xs l l′ n
-text-put {xs} {l} w r = let f = front xs l w in (f .0, (f .1, wrote-counts w r))
-
 -- two pieces, three, four: the room of each, and the buffer after all of them
 module _ {at : ℕ} (a b : List ℕ) {l : List ℕ} (r : Room at (a ++ b) l) where
   pub two-1 : Room at a l
@@ -159,6 +149,15 @@ module _ (xs : List ℕ) (h : length xs ≡ 0 → ⊥) where
   word-wrote at l w = rw word w
 
 pub ruleset dashes = (dash-room, word-room, needs)
+
+-- what `word_length` answers
+pub dash-length : (xs : List ℕ) → length xs ≡ 0 → 1 ≡ length (orDash xs)
+dash-length xs e = rw (dash xs e)
+
+pub word-length : (xs : List ℕ) → (length xs ≡ 0 → ⊥) → length xs ≡ length (orDash xs)
+word-length xs h = rw (word xs h)
+
+pub ruleset lengths = (dash-length, word-length, needs)
 
 pub dash-short : (xs : List ℕ) → length (orDash xs) ≤ 1 + length xs
 unfolding orDash

@@ -1,7 +1,7 @@
 // A function that puts text asks for the room that it fills, which the crates above have measured, and answers the place after what it put. The others measure.
 ghost use mathlib.Core.Path.{_≡_};
 ghost use mathlib.Core.List.{[], _∷_};
-ghost use Prim.Native.Nat.{_+_, _-_, _<_};
+ghost use Prim.Native.Nat.{_+_, _-_, _≤_, _<_};
 ghost use lib.ListN.{length};
 ghost use Rattle.octets.specs.Parts.{putAt};
 ghost use Rattle.text.specs.Writing.{Room, orDash};
@@ -88,6 +88,7 @@ fn count_digits(most: usize, n: usize) -> usize
 // How many bytes `put_number` puts.
 pub fn number_length(n: usize) -> usize
     ensures { λ r. ⌜ r ≡ length (decimal n) ⌝ }
+    ensures { λ r. ⌜ r ≤ 20 ⌝ }
 {
     count_digits(20, n)
 }

@@ -1,6 +1,6 @@
 // A function that puts text asks for the room that it fills, which the crates above have measured, and answers the place after what it put. The others measure.
 ghost use mathlib.Core.Path.{_≡_};
-ghost use Prim.Native.Nat.{_+_, _-_};
+ghost use Prim.Native.Nat.{_+_, _-_, _≤_};
 ghost use lib.ListN.{length};
 ghost use Rattle.octets.specs.Parts.{putAt};
 ghost use Rattle.text.specs.Writing.{Room};
@@ -162,6 +162,7 @@ pub fn after_read_line(
 // The length of a refusal's line.
 pub fn refusal_length(number: usize, place: usize) -> usize
     ensures { λ r. ⌜ r ≡ length (refusalLine number place) ⌝ }
+    ensures { λ r. ⌜ r ≤ 64 ⌝ }
 {
     number_length(number) + number_length(place) + 13
 }
@@ -169,6 +170,7 @@ pub fn refusal_length(number: usize, place: usize) -> usize
 // The length of the line of a list run's answer.
 pub fn answer_length(count: usize, number: usize, place: usize, size: usize) -> usize
     ensures { λ r. ⌜ r ≡ length (answerLine count number place size) ⌝ }
+    ensures { λ r. ⌜ r ≤ 110 ⌝ }
 {
     number_length(count) + number_length(number) + number_length(place) + number_length(size) + 30
 }

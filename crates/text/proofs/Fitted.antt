@@ -1,12 +1,12 @@
 -- A text that is measured: it is put whole where it fits, and else not at all. Assumes nothing.
-use Prim.Native.Nat.{ℕ, _≤_, _<_}
+use Prim.Native.Nat.{ℕ, _+_, _≤_, _<_}
 use mathlib.Core.Path.{_≡_, refl, ap}
 use mathlib.Core.Bool.{true}
-use mathlib.Core.List.{List, []}
+use mathlib.Core.List.{List, [], _++_}
 use native.Mathlib.Omega.{arith}
 use lib.Dec.{ltb}
 use borrow.Author.Tests.{lt-ltb, le-ltb}
-use lib.ListN.{length, take}
+use lib.ListN.{length, take, length-append}
 use Rattle.octets.specs.Parts.{putAt}
 use Rattle.answers.specs.declared.Answer.the-variants.{Accepted, Refused}
 use Rattle.answers.specs.Answer.{numberOf, when, acceptedOr, among, Among}
@@ -14,7 +14,7 @@ use Rattle.answers.proofs.Answers.{refused-or}
 use Rattle.answers.proofs.Numbered.{when-refusing}
 use Rattle.text.specs.declared.Written.{Written}
 use Rattle.text.specs.Writing.{Room, fitted, written, textNumbers}
-use Rattle.text.proofs.Writing.{Wrote, wrote-none, wrote-counts, front}
+use Rattle.text.proofs.Writing.{Wrote, wrote-none, wrote-counts, front, two-all}
 
 module _ (room : ℕ) (xs : List ℕ) where
   pub fits : length xs ≤ room → fitted room xs ≡ record { answer = Accepted; text = xs }
@@ -48,3 +48,12 @@ module _ (xs l : List ℕ) where
       let f = front xs l w in
       let e : n ≡ length xs = f .0 in
       rw (fits (length l) xs (let h = r .fits in omega arith)) (ap (λ (m : ℕ). record { answer = Accepted; length = m }) e, (f .1, wrote-counts w r))
+
+-- two pieces
+module _ (xs ys l : List ℕ) where
+  pub both-put : length xs + length ys ≤ length l → {l′ l″ : List ℕ} {p n : ℕ} → Wrote 0 xs l l′ p → Wrote p ys l′ l″ n
+      → Put (xs ++ ys) l l″ (record { answer = Accepted; length = n })
+  both-put h v w =
+      let e = length-append xs ys in
+      let r : Room 0 (xs ++ ys) l = record { fits = omega (arith, e) } in
+      all-put (xs ++ ys) l r (two-all xs ys r v w)

@@ -6,7 +6,7 @@ use Rattle.lines.proofs.inner.answer_length.Statement.{statement}
 use Rattle.lines.proofs.inner.answer_length.Tie as tie
 
 returns : tie.Need-returns
-returns c = rw (answer-line-length _ _ _ _) (omega arith)
+returns c = (rw (answer-line-length _ _ _ _) (omega arith), omega arith)
 
 pub answer-length-spec : {M : Type 1} → statement M
 answer-length-spec =

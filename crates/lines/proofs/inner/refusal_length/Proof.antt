@@ -6,7 +6,7 @@ use Rattle.lines.proofs.inner.refusal_length.Statement.{statement}
 use Rattle.lines.proofs.inner.refusal_length.Tie as tie
 
 returns : tie.Need-returns
-returns c = rw (refusal-line-length _ _) (omega arith)
+returns c = (rw (refusal-line-length _ _) (omega arith), omega arith)
 
 pub refusal-length-spec : {M : Type 1} → statement M
 refusal-length-spec =

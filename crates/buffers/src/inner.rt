@@ -1,8 +1,8 @@
 // For the crates above, which have measured the room: hence each `requires`.
 ghost use mathlib.Core.Path.{_≡_};
 ghost use Prim.Native.Nat.{_+_, _-_, _*_, _≤_};
-ghost use lib.ListN.{length, replicate};
-ghost use Rattle.octets.specs.Parts.{part, putAt};
+ghost use lib.ListN.{length, take, replicate};
+ghost use Rattle.octets.specs.Parts.{part, putAt, filled};
 ghost use Rattle.octets.specs.Numbers.{bytesOf, words};
 
 // Puts the two low bytes of v at `at`.
@@ -61,6 +61,15 @@ pub fn fill(s: &mut [u8], from: usize, to: usize, v: u8)
         s[from + j] = v;
         j += 1;
     }
+}
+
+// Zeros behind the first n bytes.
+pub fn clear_behind(s: &mut [u8], n: usize)
+    requires { ⌜ n ≤ length (now s) ⌝ }
+    ensures { λ _. ⌜ now (s .exit) ≡ filled (length (now (s .entry))) (take n (now (s .entry))) ⌝ }
+{
+    let end = s.len();
+    fill(s, n, end, 0);
 }
 
 // Copies the n bytes of `source` from `from` on to `at`.

@@ -2,45 +2,10 @@
 // the answer.
 use libc::STDERR_FILENO;
 use libc::STDOUT_FILENO;
+use loading::Loaded;
+use loading::load_argument;
 use octets::stretch;
 use sff_correction::ListOutcome;
-
-// A file that was read, with its length; or one that was not, and why is printed.
-enum Loaded {
-    Bytes(usize),
-    Nothing,
-}
-
-fn print_too_long() {
-    let mut text = report::report_room();
-    let k = report::too_long(&mut text);
-    io::write_all(STDOUT_FILENO, &text[..k]);
-}
-
-// Reads the file that an argument names.
-fn load(i: usize, bytes: &mut [u8]) -> Loaded {
-    let mut path = io::buffer();
-    let n = os::arg(i, &mut path);
-    let fd = os::open_read(&path[..n]);
-    if fd < 0 {
-        os::fail(&path[..n]);
-        return Loaded::Nothing;
-    }
-    let size = io::read_full(fd, bytes);
-    // One byte more: there is one if the file is too long, and a read that failed fails again.
-    let mut more = [0u8; 1];
-    let got = libc::read(fd, &mut more);
-    if got < 0 {
-        os::fail(&path[..n]);
-        return Loaded::Nothing;
-    }
-    libc::close(fd);
-    if got > 0 {
-        print_too_long();
-        return Loaded::Nothing;
-    }
-    Loaded::Bytes(size)
-}
 
 // Writes a file under the name that an argument gives, which no file may have yet, and answers whether it is there.
 fn save(i: usize, bytes: &[u8]) -> bool {
@@ -74,12 +39,12 @@ fn deliver(outcome: ListOutcome, buffer: &[u8]) {
 
 fn correct() {
     let mut buffer = io::large_buffer();
-    let file = load(1, &mut buffer);
+    let file = load_argument(1, &mut buffer);
     let Loaded::Bytes(n) = file else {
         return;
     };
     let mut list = io::large_buffer();
-    let records = load(2, &mut list);
+    let records = load_argument(2, &mut list);
     let Loaded::Bytes(m) = records else {
         return;
     };

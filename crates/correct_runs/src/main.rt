@@ -1,45 +1,15 @@
 // What `correct` prints for each file and list that the arguments name in pairs, and the listing of the new file: many stored runs in one.
 use libc::STDOUT_FILENO;
+use loading::Loaded;
+use loading::load_argument;
 use octets::stretch;
 use sff_correction::ListOutcome;
-
-// A file that was read, with its length; or one that was not, and why is printed.
-enum Loaded {
-    Bytes(usize),
-    Nothing,
-}
 
 fn print_argument(i: usize, end: &[u8]) {
     let mut word = io::buffer();
     let n = os::arg(i, &mut word);
     io::write_all(STDOUT_FILENO, &word[..n]);
     io::write_all(STDOUT_FILENO, end);
-}
-
-fn print_too_long() {
-    let mut text = report::report_room();
-    let k = report::too_long(&mut text);
-    io::write_all(STDOUT_FILENO, &text[..k]);
-}
-
-// Reads the file that an argument names.
-fn load(i: usize, bytes: &mut [u8]) -> Loaded {
-    let mut path = io::buffer();
-    let n = os::arg(i, &mut path);
-    let fd = os::open_read(&path[..n]);
-    if fd < 0 {
-        os::fail(&path[..n]);
-        return Loaded::Nothing;
-    }
-    let size = io::read_full(fd, bytes);
-    let mut more = [0u8; 1];
-    let over = io::read_full(fd, &mut more);
-    libc::close(fd);
-    if over > 0 {
-        print_too_long();
-        return Loaded::Nothing;
-    }
-    Loaded::Bytes(size)
 }
 
 // Prints the answer, and the listing of the file that `correct` would write.
@@ -58,12 +28,12 @@ fn correct(file: usize, records: usize) {
     print_argument(file, b" ");
     print_argument(records, b":\n");
     let mut buffer = io::large_buffer();
-    let loaded = load(file, &mut buffer);
+    let loaded = load_argument(file, &mut buffer);
     let Loaded::Bytes(n) = loaded else {
         return;
     };
     let mut list = io::large_buffer();
-    let listed = load(records, &mut list);
+    let listed = load_argument(records, &mut list);
     let Loaded::Bytes(m) = listed else {
         return;
     };

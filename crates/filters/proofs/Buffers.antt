@@ -1,11 +1,10 @@
 -- A buffer with what was made at its front and zeros behind it. Assumes nothing.
-use Prim.Native.Nat.{ℕ, _+_, _-_, _<_, _≤_}
+use Prim.Native.Nat.{ℕ, _<_, _≤_}
 use mathlib.Core.Path.{_≡_, sym, ap, _∙_}
 use mathlib.Core.Bool.{Bool, true, false, not}
-use mathlib.Core.List.{List, [], _++_, append-nil}
+use mathlib.Core.List.{List, []}
 use native.Mathlib.Omega.{arith}
-use lib.ListN.{length, take, replicate, length-replicate, drop-of-length-le}
-use lib.Seq.{length-take-le}
+use lib.ListN.{length, take}
 use Rattle.octets.specs.Parts.{part, putAt, filled}
 use Rattle.octets.proofs.Lists.{take-front, length-put, length-part}
 use Rattle.answers.specs.declared.Answer.{Answer}
@@ -17,13 +16,6 @@ use Rattle.filters.specs.Sides.{after}
 -- the answer and both buffers after a call, where `is-first` says whether `here` is the caller's first: the three promises of a function that undoes
 abbrev pub Undid : Result → Bool → List ℕ → List ℕ → List ℕ → List ℕ → Filtered → Type 0
 Undid result is-first here here' there there' r = (r ≡ filtered result) × ((here' ≡ after is-first result here) × (there' ≡ after (not is-first) result there))
-
-pub clear : (n : ℕ) (s : List ℕ) → n ≤ length s → putAt n (replicate (length s - n) 0) s ≡ filled (length s) (take n s)
-unfolding putAt filled
-clear n s h =
-    let l : length (replicate {A = ℕ} (length s - n) 0) ≡ length s - n = length-replicate (length s - n) 0 in
-    let k : length (take n s) ≡ n = length-take-le n s h in
-    rw (l, k, drop-of-length-le s (let e : length s ≤ n + (length s - n) = omega arith in e), append-nil (take n s ++ replicate (length s - n) 0))
 
 -- xs, n bytes of it, was put at the front of s, which is s₁ then
 pub record Holds (n : ℕ) (xs s s₁ : List ℕ) : Type 0 where

@@ -2,17 +2,17 @@
 // one filter less may be opened.
 ghost use mathlib.Core.Path.{_≡_};
 ghost use mathlib.Core.Bool.{not};
-ghost use Prim.Native.Nat.{_-_, _<_, _≤_, min};
+ghost use Prim.Native.Nat.{_-_, _<_, _≤_};
 ghost use lib.ListN.{length, take};
-ghost use Rattle.octets.specs.Parts.{part, filled};
+ghost use Rattle.octets.specs.Parts.{part};
 ghost use Rattle.answers.specs.declared.Answer.the-variants.{Refused};
 ghost use Rattle.filter_format.specs.Block.{filterAt, undone};
 ghost use Rattle.filter_format.specs.Undo.{filtered, refusing, making, firstAfter, secondAfter, roomOf, blockTest, layerTest, undoFrom};
 ghost use Rattle.filter_block.specs.Tests.{Opens};
 ghost use Rattle.filters.specs.Sides.{after};
 use answers::Answer;
+use buffers::inner::clear_behind;
 use buffers::inner::copy;
-use buffers::inner::fill;
 use buffers::inner::move_down;
 use filter_block::inner::contents_test;
 use filter_block::inner::filter_at;
@@ -21,12 +21,7 @@ use filter_block::inner::is_raw;
 use filter_block::inner::undo_filter;
 use filter_format::Filter;
 use filter_format::Filtered;
-
-pub(crate) fn smaller(x: usize, y: usize) -> usize
-    ensures { λ r. ⌜ r ≡ min x y ⌝ }
-{
-    if x <= y { x } else { y }
-}
+use octets::least;
 
 // The tests of a block in a chain, where `left` filters may still be opened.
 pub(crate) fn block_test(filter: Filter, block: &[u8], left: usize, room: usize) -> Answer
@@ -59,15 +54,6 @@ pub(crate) fn layer_test(filter: Filter, block: &[u8], room: usize) -> Answer
         return Answer::Refused(41, 0);
     }
     contents_test(filter, block, room)
-}
-
-// Zeros behind the first n bytes.
-pub fn clear_behind(s: &mut [u8], n: usize)
-    requires { ⌜ n ≤ length (now s) ⌝ }
-    ensures { λ _. ⌜ now (s .exit) ≡ filled (length (now (s .entry))) (take n (now (s .entry))) ⌝ }
-{
-    let end = s.len();
-    fill(s, n, end, 0);
 }
 
 // A refusal zeroes both buffers.
@@ -129,7 +115,7 @@ pub(crate) fn choose(
     ensures { λ _. ⌜ now (here .exit) ≡ after «is_first» (undoFrom left (roomOf (now (here .entry)) (now (there .entry))) (take len (now (here .entry)))) (now (here .entry)) ⌝ }
     ensures { λ _. ⌜ now (there .exit) ≡ after (not «is_first») (undoFrom left (roomOf (now (here .entry)) (now (there .entry))) (take len (now (here .entry)))) (now (there .entry)) ⌝ }
 {
-    let room = smaller(here.len(), there.len());
+    let room = least(here.len(), there.len());
     let filter = filter_at(&here[..len]);
     let answer = block_test(filter, &here[..len], left, room);
     if let Answer::Refused(number, place) = answer {

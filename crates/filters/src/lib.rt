@@ -3,15 +3,15 @@ ghost use mathlib.Core.Path.{_≡_};
 ghost use Rattle.filter_format.specs.Undo.{filtered, roomOf, firstAfter, secondAfter, undo, undoLayer};
 use crate::inner::block_test;
 use crate::inner::choose;
-use crate::inner::clear_behind;
 use crate::inner::layer_test;
 use crate::inner::refuse;
-use crate::inner::smaller;
 use answers::Answer;
+use buffers::inner::clear_behind;
 use filter_block::inner::filter_at;
 use filter_block::inner::is_raw;
 use filter_block::inner::undo_filter;
 use filter_format::Filtered;
+use octets::least;
 
 pub mod inner;
 
@@ -21,7 +21,7 @@ pub fn undo(block: &[u8], first: &mut [u8], second: &mut [u8]) -> Filtered
     ensures { λ _. ⌜ now (first .exit) ≡ firstAfter (undo (roomOf (now (first .entry)) (now (second .entry))) (now (block .entry))) (now (first .entry)) ⌝ }
     ensures { λ _. ⌜ now (second .exit) ≡ secondAfter (now (second .entry)) ⌝ }
 {
-    let room = smaller(first.len(), second.len());
+    let room = least(first.len(), second.len());
     let filter = filter_at(block);
     let answer = block_test(filter, block, 8, room);
     if let Answer::Refused(number, place) = answer {
@@ -45,7 +45,7 @@ pub fn undo_layer(block: &[u8], first: &mut [u8], second: &mut [u8]) -> Filtered
     ensures { λ _. ⌜ now (first .exit) ≡ firstAfter (undoLayer (roomOf (now (first .entry)) (now (second .entry))) (now (block .entry))) (now (first .entry)) ⌝ }
     ensures { λ _. ⌜ now (second .exit) ≡ secondAfter (now (second .entry)) ⌝ }
 {
-    let room = smaller(first.len(), second.len());
+    let room = least(first.len(), second.len());
     let filter = filter_at(block);
     let answer = layer_test(filter, block, room);
     if let Answer::Refused(number, place) = answer {

@@ -3,7 +3,7 @@ use Prim.Native.Nat.{ℕ, zero, suc, _+_, _-_, _≤_, max}
 use mathlib.Core.Path.{_≡_, sym, ap, _∙_}
 use mathlib.Core.List.{List, _++_, append-assoc, append-nil}
 use native.Mathlib.Omega.{arith}
-use lib.ListN.{length, take, drop, replicate, length-append, length-drop, length-replicate, take-append-drop, replicate-append-replicate}
+use lib.ListN.{length, take, drop, replicate, length-append, length-drop, length-replicate, take-append-drop, replicate-append-replicate, drop-of-length-le}
 use lib.Seq.{length-take-le, take-take, drop-drop, take-append-seam, drop-append-add}
 use Rattle.octets.specs.Parts.{part, putAt, filled, settled, spliced}
 use Rattle.octets.proofs.Lists.{length-part, length-put, put-left, drop-take}
@@ -24,6 +24,14 @@ module _ (new : List ℕ) (m : ℕ) (b : List ℕ) where
   pub length-settled : length new ≤ m → m ≤ length b → length (settled new m b) ≡ length b
   unfolding settled filled
   length-settled h k = simp (length-append, length-replicate, length-drop) (omega arith)
+
+-- zeros put behind the first n bytes of a buffer
+pub zeros-behind : (n : ℕ) (s : List ℕ) → n ≤ length s → putAt n (replicate (length s - n) 0) s ≡ filled (length s) (take n s)
+unfolding putAt filled
+zeros-behind n s h =
+    let l : length (replicate {A = ℕ} (length s - n) 0) ≡ length s - n = length-replicate (length s - n) 0 in
+    let k : length (take n s) ≡ n = length-take-le n s h in
+    rw (l, k, drop-of-length-le s (let e : length s ≤ n + (length s - n) = omega arith in e), append-nil (take n s ++ replicate (length s - n) 0))
 
 -- a write within the file
 pub settled-put : (at : ℕ) (xs new : List ℕ) (m : ℕ) (b : List ℕ) → at + length xs ≤ length new → putAt at xs (settled new m b) ≡ settled (putAt at xs new) m b

@@ -1,6 +1,6 @@
-// Numbers, comparisons and scans in byte slices.
+// Numbers, comparisons and scans in byte slices, and the least and the greatest of two numbers.
 ghost use mathlib.Core.Path.{_≡_};
-ghost use Prim.Native.Nat.{_<_};
+ghost use Prim.Native.Nat.{_<_, min, max};
 ghost use Rattle.octets.specs.Parts.{wholePart};
 ghost use Rattle.octets.specs.Scans.{passes, fails};
 
@@ -18,6 +18,33 @@ pub fn wide(x: u8) -> usize
     ensures { λ r. ⌜ (r ≡ x) × (r < 256) ⌝ }
 {
     x as usize
+}
+
+// The least of two numbers.
+pub fn least(x: usize, y: usize) -> usize
+    ensures { λ r. ⌜ r ≡ min x y ⌝ }
+{
+    if y < x { y } else { x }
+}
+
+// The greatest of two numbers.
+pub fn greatest(x: usize, y: usize) -> usize
+    ensures { λ r. ⌜ r ≡ max x y ⌝ }
+{
+    if x < y { y } else { x }
+}
+
+// The same of 32 bits, of which the compiler compares four at a time.
+pub fn least32(a: u32, b: u32) -> u32
+    ensures { λ r. ⌜ r ≡ min a b ⌝ }
+{
+    if b < a { b } else { a }
+}
+
+pub fn greatest32(a: u32, b: u32) -> u32
+    ensures { λ r. ⌜ r ≡ max a b ⌝ }
+{
+    if a < b { b } else { a }
 }
 
 // The n bytes from `at` on, as a part of s; its empty front where they do not all lie in s.

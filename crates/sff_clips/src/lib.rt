@@ -1,23 +1,12 @@
 // A read's clips: what they may hold, and the insert that they leave.
 ghost use mathlib.Core.Path.{_≡_};
-ghost use Prim.Native.Nat.{max, min};
 ghost use Rattle.sff_format.specs.Insert.{firstBase, rightEnd, lastBase};
+use octets::greatest;
+use octets::least;
 use sff_format::ReadView;
 use sff_walk::BasePosition;
 
 pub mod inner;
-
-fn later(a: BasePosition, b: BasePosition) -> BasePosition
-    ensures { λ r. ⌜ r .0 ≡ max (a .0) (b .0) ⌝ }
-{
-    if a.0 < b.0 { b } else { a }
-}
-
-fn earlier(a: BasePosition, b: BasePosition) -> BasePosition
-    ensures { λ r. ⌜ r .0 ≡ min (a .0) (b .0) ⌝ }
-{
-    if b.0 < a.0 { b } else { a }
-}
 
 // The last base that a right clip leaves: one that is not computed leaves them all.
 fn right_end(bases: usize, clip: BasePosition) -> BasePosition
@@ -36,7 +25,7 @@ pub fn first_base(view: ReadView) -> BasePosition
 {
     let quality = BasePosition(view.quality_left);
     let adapter = BasePosition(view.adapter_left);
-    later(BasePosition(1), later(quality, adapter))
+    BasePosition(greatest(1, greatest(quality.0, adapter.0)))
 }
 
 // The last base of a read's insert, which is empty where this comes before the first.
@@ -44,7 +33,7 @@ pub fn last_base(view: ReadView) -> BasePosition
     ensures { λ r. ⌜ r .0 ≡ lastBase (view .bases .size) (view .«quality_right») (view .«adapter_right») ⌝ }
 {
     let bases = view.bases.size;
-    let quality = BasePosition(view.quality_right);
-    let adapter = BasePosition(view.adapter_right);
-    earlier(right_end(bases, quality), right_end(bases, adapter))
+    let quality = right_end(bases, BasePosition(view.quality_right));
+    let adapter = right_end(bases, BasePosition(view.adapter_right));
+    BasePosition(least(quality.0, adapter.0))
 }

@@ -1,11 +1,13 @@
 // The numbers of a summary, for this crate and those above it, which know that the values lie in the file: hence each `requires`.
 ghost use mathlib.Core.Path.{_≡_};
-ghost use Prim.Native.Nat.{_+_, _*_, _≤_, _<_, min, max};
+ghost use Prim.Native.Nat.{_+_, _*_, _≤_, _<_};
 ghost use lib.ListN.{length};
 ghost use Rattle.octets.specs.Numbers.{number, wordsAt};
 ghost use Rattle.sff_signal.specs.Signal.{sumOf, maxOf, minOf, over, summaryOf};
 use crate::Summary;
+use octets::greatest32;
 use octets::inner::get16;
+use octets::least32;
 
 // The whole numbers that a summary is made of. 32 bits hold the sum of 65,535 values, and are exactly an f64.
 struct Totals {
@@ -21,18 +23,6 @@ fn value(s: &[u8], at: usize) -> u32
     get16(s, at) as u32
 }
 
-fn larger(a: u32, b: u32) -> u32
-    ensures { λ r. ⌜ r ≡ max a b ⌝ }
-{
-    if a < b { b } else { a }
-}
-
-fn smaller(a: u32, b: u32) -> u32
-    ensures { λ r. ⌜ r ≡ min a b ⌝ }
-{
-    if b < a { b } else { a }
-}
-
 // The largest, the smallest and the sum of the values at `at`.
 fn add_up(s: &[u8], at: usize, flows: usize) -> Totals
     requires { ⌜ (1 ≤ flows) × (flows < 65536) × (at + 2 * flows ≤ length (now s)) ⌝ }
@@ -45,8 +35,8 @@ fn add_up(s: &[u8], at: usize, flows: usize) -> Totals
     let mut i = 1;
     while i < flows {
         let x = value(s, at + 2 * i);
-        most = larger(most, x);
-        least = smaller(least, x);
+        most = greatest32(most, x);
+        least = least32(least, x);
         sum += x;
         i += 1;
     }

@@ -8,7 +8,7 @@ ghost use Rattle.io.specs.Counts.{Counts};
 ghost use Rattle.lines.specs.Lines.{tooLong};
 ghost use Rattle.unfiltering.specs.Unfiltering.{textOf, printedBy};
 use answers::Answer;
-use filters::inner::clear_behind;
+use buffers::inner::clear_behind;
 use filters::undo;
 use lines::inner::put_refusal_line;
 use lines::inner::put_too_long;

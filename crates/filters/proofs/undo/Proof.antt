@@ -9,8 +9,8 @@ use Rattle.filters.proofs.undo.Tie as tie
 
 -- what the tests of the block told
 told : (c : tie.After-block-test) → let a = c .before .before .before .before .before .before .args in
-    Told 8 (c .before .before .smaller .result) (c .before .filter-at .result) (c .block-test .result) (a .block .now) (a .first .now) (a .second .now)
-told c = record { is-room = c .before .before .smaller .ensures; is-filter = c .before .filter-at .ensures; is-answer = c .block-test .ensures }
+    Told 8 (c .before .before .least .result) (c .before .filter-at .result) (c .block-test .result) (a .block .now) (a .first .now) (a .second .now)
+told c = record { is-room = c .before .before .least .ensures; is-filter = c .before .filter-at .ensures; is-answer = c .block-test .ensures }
 
 passed : (c : tie.After-enum-told) → let b = c .before .before in let a = b .before .before .before .before .before .before .args in
     Passed 8 (b .before .filter-at .result) (a .block .now) (a .first .now) (a .second .now)

@@ -7,8 +7,8 @@ use Rattle.filters.proofs.undo_layer.Tie as tie
 
 -- what the tests of the layer told
 told : (c : tie.After-layer-test) → let a = c .before .before .before .before .before .before .args in
-    ToldAlone (c .before .before .smaller .result) (c .before .filter-at .result) (c .layer-test .result) (a .block .now) (a .first .now) (a .second .now)
-told c = record { is-room = c .before .before .smaller .ensures; is-filter = c .before .filter-at .ensures; is-answer = c .layer-test .ensures }
+    ToldAlone (c .before .before .least .result) (c .before .filter-at .result) (c .layer-test .result) (a .block .now) (a .first .now) (a .second .now)
+told c = record { is-room = c .before .before .least .ensures; is-filter = c .before .filter-at .ensures; is-answer = c .layer-test .ensures }
 
 -- the layer undone, in the first buffer
 held : (c : tie.After-undo-filter) → let a = c .before .before .before .before .before .before .before .before .before .before .args in let k = c .undo-filter in

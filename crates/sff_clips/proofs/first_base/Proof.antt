@@ -1,5 +1,4 @@
--- The later of 1 and the later of both lefts.
-use mathlib.Core.Path.{_∙_}
+-- The greatest of 1 and both lefts.
 use Rattle.sff_format.specs.Insert.{firstBase}
 use borrow.Author.Needs.{needs}
 use Rattle.sff_clips.proofs.first_base.Statement.{statement}
@@ -7,7 +6,7 @@ use Rattle.sff_clips.proofs.first_base.Tie as tie
 
 returns : tie.Need-returns
 unfolding firstBase
-returns c = c .later2 .ensures ∙ rw (c .before .later .ensures)
+returns c = rw (c .greatest2 .ensures, c .before .greatest .ensures)
 
 pub first-base-spec : {M : Type 1} → statement M
 first-base-spec = tie.close (tie.spec (λ c κs. search needs) (λ c κs. search needs) returns)

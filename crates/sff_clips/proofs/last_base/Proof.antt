@@ -1,5 +1,4 @@
--- The earlier of both right ends.
-use mathlib.Core.Path.{_∙_}
+-- The least of both right ends.
 use Rattle.sff_format.specs.Insert.{lastBase}
 use borrow.Author.Needs.{needs}
 use Rattle.sff_clips.proofs.last_base.Statement.{statement}
@@ -7,7 +6,7 @@ use Rattle.sff_clips.proofs.last_base.Tie as tie
 
 returns : tie.Need-returns
 unfolding lastBase
-returns c = c .earlier .ensures ∙ rw (c .before .before .right-end .ensures, c .before .right-end2 .ensures)
+returns c = rw (c .least .ensures, c .before .before .right-end .ensures, c .before .right-end2 .ensures)
 
 pub last-base-spec : {M : Type 1} → statement M
 last-base-spec =

@@ -8,6 +8,7 @@ use borrow.Author.Tests.{not-true, not-false}
 use borrow.Fn.Kinds.{In}
 use borrow.Fn.PlainCycle.{Measures, is, falls, and}
 use lib.ListN.{take, length-take}
+use Rattle.octets.proofs.least.Reads as least-reads
 use Rattle.filter_format.specs.Block.{isRaw, undone}
 use Rattle.filter_block.proofs.inner.filter_at.Reads as filter-at-reads
 use Rattle.filter_block.proofs.inner.is_raw.Reads as is-raw-reads
@@ -24,7 +25,6 @@ use Rattle.filters.proofs.inner.block_test.Reads as block-test-reads
 use Rattle.filters.proofs.inner.hand_over.Reads as hand-over-reads
 use Rattle.filters.proofs.inner.keep.Reads as keep-reads
 use Rattle.filters.proofs.inner.refuse.Reads as refuse-reads
-use Rattle.filters.proofs.inner.smaller.Reads as smaller-reads
 use Rattle.filters.proofs.inner.+choose+layer.{statement}
 use Rattle.filters.proofs.inner.+choose+layer.Tie.{close}
 
@@ -48,8 +48,8 @@ layer-below t = and 2 layer-kinds.ps (falls 2 layer-kinds.ps _<_ μ-layer t) lay
 
 abbrev choose-claims : ℕ → choose-lts.Claims
 choose-claims t = (
-  smaller-reads.Asked,
-  smaller-reads.Learnt,
+  least-reads.Asked,
+  least-reads.Learnt,
   filter-at-reads.Asked,
   filter-at-reads.Learnt,
   block-test-reads.Asked,
@@ -72,8 +72,8 @@ layer-claims t = (undo-filter-reads.Asked, undo-filter-reads.Learnt, choose-belo
 module _ (t : ℕ) where
   -- what the tests of the block told
   told : (c : choose-lts.After-block-test (choose-claims t) (choose-at t) choose.Post) → let a = c .before .before .before .before .before .before .before .args in let here = a .here .now in
-      Told (a .left) (c .before .before .before .before .smaller .result) (c .before .before .filter-at .result) (c .block-test .result) (take (a .len) here) here (a .there .now)
-  told c = record { is-room = c .before .before .before .before .smaller .ensures; is-filter = c .before .before .filter-at .ensures; is-answer = c .block-test .ensures }
+      Told (a .left) (c .before .before .before .before .least .result) (c .before .before .filter-at .result) (c .block-test .result) (take (a .len) here) here (a .there .now)
+  told c = record { is-room = c .before .before .before .before .least .ensures; is-filter = c .before .before .filter-at .ensures; is-answer = c .block-test .ensures }
 
   passed : (c : choose-lts.After-enum-told (choose-claims t) (choose-at t) choose.Post) → let b = c .before .before in let a = b .before .before .before .before .before .before .before .args in
       Passed (a .left) (b .before .before .filter-at .result) (take (a .len) (a .here .now)) (a .here .now) (a .there .now)

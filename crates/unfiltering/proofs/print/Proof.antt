@@ -1,8 +1,21 @@
-use mathlib.Core.Path.{refl}
-use Rattle.unfiltering.proofs.Texts.{none-printed, long-printed, text-printed}
+-- The text is `too long`, or what is printed of the block.
+use native.Mathlib.Omega.{arith}
 use borrow.Author.Needs.{needs}
+use Rattle.unfiltering.proofs.Texts.{long-text, block-text}
 use Rattle.unfiltering.proofs.print.Statement.{statement}
 use Rattle.unfiltering.proofs.print.Tie as tie
+
+returns : tie.Need-returns
+returns c =
+    let put = c .before .before in
+    let cleared = put .before .before .before .before in
+    let h = put .put-long .ensures in
+    rw (long-text _ _ (cleared .before .before .if1 .taken)) (h .0, (h .1 .0, (h .1 .1, cleared .clear-behind .ensures)))
+
+returns-2 : tie.Need-returns-2
+returns-2 c =
+    let put = c .before .before .before .before in
+    rw (block-text _ _ (put .before .before .before .if1 .left)) (put .put-undone .ensures)
 
 pub print-spec : {M : Type 1} → statement M
 print-spec =
@@ -12,18 +25,8 @@ print-spec =
     (λ c κs. search needs)
     (λ c. search needs)
     (λ c. search needs)
-    (λ c.
-    let a = c .before .before .before .before .before .before .before .before .before .before .before .before .args in
-    none-printed (a .first .now) (a .second .now) (a .input .now) (c .before .before .before .before .before .before .before .before .if1 .taken) (refl, (c .before .before .before .before .before .before .clear-behind .ensures, c .before .before .clear-behind2 .ensures)))
+    returns
     (λ c κs. search needs)
     (λ c. search needs)
     (λ c. search needs)
-    (λ c.
-    let a = c .before .before .before .before .before .before .before .before .before .before .before .before .args in
-    long-printed (a .first .now) (a .second .now) (a .input .now) (c .before .before .before .before .before .before .before .before .if1 .left) (c .before .before .before .before .before .before .before .if2 .taken) (c .before .before .before .before .put-long .ensures))
-    (λ c κs. search needs)
-    (λ c. search needs)
-    (λ c. search needs)
-    (λ c.
-    let a = c .before .before .before .before .before .before .before .before .before .before .before .before .args in
-    text-printed (a .first .now) (a .second .now) (a .input .now) (c .before .before .before .before .before .before .before .before .if1 .left) (c .before .before .before .before .before .before .before .if2 .left) (c .before .before .before .before .put-undone .ensures)))
+    returns-2)

@@ -1,10 +1,29 @@
+-- The text is the data, which undoing leaves in the first buffer, or the line of the refusal.
 use native.Mathlib.Omega.{arith}
-use Rattle.filter_format.specs.Undo.{Result, roomOf, undo}
-use Rattle.text.proofs.Writing.{wrote-counts}
-use Rattle.unfiltering.proofs.Texts.{line-room, data-held, refusal-held}
 use borrow.Author.Needs.{needs}
+use Rattle.filter_format.specs.Undo.{roomOf, undo}
+use Rattle.unfiltering.proofs.Texts.{undone-held, refused-held}
 use Rattle.unfiltering.proofs.put_undone.Statement.{statement}
 use Rattle.unfiltering.proofs.put_undone.Tie as tie
+
+returns : tie.Need-returns
+returns c =
+    let undone = c .before .before .before .before .before .before in
+    let a = undone .before .before .before .before .before .before .args in
+    let u = undone .undo .ensures in
+    let x = undo (roomOf (a .first .now) (a .second .now)) (a .block .now) in
+    let h = undone-held x (u .0) (a .first .now) (c .enum-told .given .1) (u .1 .0) (omega arith) in
+    (h .0, (h .1 .0, (h .1 .1, u .1 .1)))
+
+returns-2 : tie.Need-returns-2
+returns-2 c =
+    let told = c .before .before .before .before .before in
+    let undone = told .before .before .before .before .before .before in
+    let a = undone .before .before .before .before .before .before .args in
+    let u = undone .undo .ensures in
+    let x = undo (roomOf (a .first .now) (a .second .now)) (a .block .now) in
+    let h = refused-held x (u .0) (a .first .now) _ _ (told .answer .given .1) (undone .undo .last .1 .0) (omega arith) (c .before .before .put-refusal .ensures) in
+    (h .0, (h .1 .0, (h .1 .1, u .1 .1)))
 
 pub put-undone-spec : {M : Type 1} → statement M
 put-undone-spec =
@@ -15,19 +34,9 @@ put-undone-spec =
     (λ c. search needs)
     (λ c. search needs)
     (λ c. search needs)
-    (λ c.
-    let a = c .before .before .before .before .before .before .before .before .before .before .before .before .args in
-    let u = c .before .before .before .before .before .before .undo in
-    let x : Result = undo (roomOf (a .first .now) (a .second .now)) (a .block .now) in
-    data-held x (a .first .now) (a .second .now) (u .ensures .0) (u .ensures .1 .1) (u .ensures .1 .0) (c .enum-told .given .1))
+    returns
     (λ c. search needs)
-    (λ c κs. line-room _ _ (c .before .before .before .before .before .before .before .before .undo .last .1 .0) (omega arith))
-    (λ c κs. wrote-counts (c .before .before .before .put-refusal-line .ensures) (line-room _ _ (c .before .before .before .before .before .before .before .before .before .before .before .before .undo .last .1 .0) (omega arith)) .0)
+    (λ c κs. search needs)
     (λ c. search needs)
     (λ c. search needs)
-    (λ c.
-    let a = c .before .before .before .before .before .before .before .before .before .before .before .before .before .before .before .before .before .before .before .before .before .args in
-    let u = c .before .before .before .before .before .before .before .before .before .before .before .before .before .before .before .undo in
-    let x : Result = undo (roomOf (a .first .now) (a .second .now)) (a .block .now) in
-    let g = c .before .before .before .before .before .before .before .before .before .answer .given in
-    refusal-held x (a .first .now) (a .second .now) (u .ensures .0) (u .ensures .1 .1) _ (g .0 .0) (g .0 .1 .0) (g .1) (c .before .before .before .before .before .before .before .before .before .before .before .before .before .before .before .before .before .before .before .before .before .pre) (omega arith) (c .before .before .before .before .before .before .put-refusal-line .ensures) (c .before .before .clear-behind .ensures)))
+    returns-2)

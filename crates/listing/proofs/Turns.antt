@@ -1,26 +1,24 @@
 -- The loop over an accepted file's reads that puts their lines. Assumes nothing.
-use Prim.Native.Nat.{ℕ, suc, _+_, _≤_}
+use Prim.Native.Nat.{ℕ, _+_, _≤_, _<_}
 use mathlib.Core.Path.{_≡_}
-use mathlib.Core.Bool.{Bool, false}
 use mathlib.Core.List.{List, _++_}
 use native.Mathlib.Numerals.{add-one}
-use native.Mathlib.Omega.{arith}
-use lib.ListN.{length}
+use lib.ListN.{length, drop}
 use Rattle.octets.specs.Numbers.{Bytes}
 use Rattle.answers.specs.declared.Answer.the-variants.{Accepted}
+use Rattle.sff_format.specs.declared.Boundary.{Boundary}
 use Rattle.sff_format.specs.declared.ReadView.{ReadView}
-use Rattle.sff_format.specs.HeaderTest.{readCount, headerLength, flows, flowCharacters, headerTest}
-use Rattle.sff_format.specs.ReadTest.{readTest, readEnd}
-use Rattle.sff_format.specs.FileTest.{indexTest, pastIndex, nowPassed, boundaryTest, fileTest}
-use Rattle.sff_format.specs.Parse.{parseRead, parseReads, parse}
+use Rattle.sff_format.specs.HeaderTest.{readCount, flows, flowCharacters}
+use Rattle.sff_format.specs.ReadTest.{readTest}
+use Rattle.sff_format.specs.FileTest.{fileTest}
+use Rattle.sff_format.specs.Parse.{parseRead, parse}
+use Rattle.sff_format.specs.Walk.{firstBoundary, readStart, nextBoundary, Walk}
 use Rattle.sff_format.specs.View.{viewAt}
-use Rattle.sff_format.proofs.HeaderLaws.{header-fits, characters-length}
-use Rattle.sff_format.proofs.Boundaries.{accepted-read}
-use Rattle.sff_format.proofs.FileLaid.{head-ok, sections-ok}
-use Rattle.sff_format.proofs.ReadLaid.{fits-16}
+use Rattle.sff_format.proofs.HeaderLaws.{characters-length}
+use Rattle.sff_format.proofs.FileLaid.{head-ok}
+use Rattle.sff_format.proofs.Walks.{walk-start, walk-end, walk-accepted, walk-reads, walk-next}
 use Rattle.sff_format.proofs.Views.{name-viewed}
 use Rattle.sff_format.proofs.Inserted.{size-viewed, first-viewed, last-viewed, insert-viewed}
-use Rattle.sff_format.proofs.Steps.{read-fits}
 use Rattle.text.specs.Writing.{Room}
 use Rattle.text.proofs.Writing.{Wrote}
 use Rattle.text.proofs.Coming.{Coming, coming-start, coming-room, coming-put, coming-done}
@@ -37,74 +35,37 @@ line-viewed characters b p i y e = rw (
   size-viewed characters b p y e,
 )
 
--- n reads are left at the boundary p, the next at position i; their lines are to come
-pub record Listing (b l₀ : List ℕ) (at i n p : ℕ) (q : Bool) (next : ℕ) (l : List ℕ) : Type 0 where
+-- i reads are behind the boundary; the lines of the rest are to come
+pub record Listing (b l₀ : List ℕ) (at i : ℕ) (boundary : Boundary) (next : ℕ) (l : List ℕ) : Type 0 where
   pub bytes : Bytes b
-  pub head : headerTest b ≡ Accepted
-  pub counted : i + n ≡ readCount b
-  pub inside : p ≤ length b
-  pub accepted : boundaryTest b n p q ≡ Accepted
-  pub coming : Coming at (linesFrom 0 (parse b .reads)) l₀ next (linesFrom i (parseReads b n p q)) l
+  pub walk : Walk b i boundary
+  pub coming : Coming at (linesFrom 0 (parse b .reads)) l₀ next (linesFrom i (drop i (parse b .reads))) l
 
-pub listing-start : (b l : List ℕ) (at : ℕ) → Bytes b → fileTest b ≡ Accepted → Room at (linesFrom 0 (parse b .reads)) l
-    → Listing b l at 0 (readCount b) (headerLength b) false at l
-unfolding parse
-listing-start b l at y e r = record {
-  bytes = y;
-  head = head-ok b e;
-  counted = omega arith;
-  inside = header-fits b (head-ok b e);
-  accepted = sections-ok b e;
-  coming = coming-start r;
-}
+pub listing-start : (b l : List ℕ) (at : ℕ) {boundary : Boundary} → Bytes b → fileTest b ≡ Accepted → boundary ≡ firstBoundary b → Room at (linesFrom 0 (parse b .reads)) l
+    → Listing b l at 0 boundary at l
+listing-start b l at y e f r = record { bytes = y; walk = rw f (walk-start b e); coming = coming-start r }
 
-module _ {b l₀ : List ℕ} {at i n p : ℕ} {q : Bool} {next : ℕ} {l : List ℕ} (g : Listing b l₀ at i n p q next l) where
-  pub listing-done : n ≡ 0 → Wrote at (linesFrom 0 (parse b .reads)) l₀ l next
-  unfolding linesFrom parseReads
-  listing-done z = coming-done (g .coming) (rw z)
+module _ {b l₀ : List ℕ} {at i : ℕ} {boundary : Boundary} {next : ℕ} {l : List ℕ} (g : Listing b l₀ at i boundary next l) where
+  pub listing-done : readCount b ≤ i → Wrote at (linesFrom 0 (parse b .reads)) l₀ l next
+  unfolding linesFrom
+  listing-done h = coming-done (g .coming) (rw (walk-end (g .walk) h))
 
-  module _ (m : ℕ) (s : n ≡ suc m) where
-    turn : (indexTest b p q ≡ Accepted) × (readTest (flowCharacters b) b (pastIndex b p q) ≡ Accepted)
-        × (boundaryTest b m (readEnd (flows b) b (pastIndex b p q)) (nowPassed b p q) ≡ Accepted)
-    turn = accepted-read b m p q (rw s at (g .accepted))
+  -- what the code has of the read: its start, and its view of F flow values
+  module _ (h : i < readCount b) {start : Boundary} (o : start ≡ readStart b boundary) (F : ℕ) (v : ReadView) (f : F ≡ flows b) (w : v ≡ viewAt F b (start .place)) where
+    line-is : linesFrom i (drop i (parse b .reads)) ≡ viewLine b i v ++ linesFrom (i + 1) (drop (i + 1) (parse b .reads))
+    unfolding linesFrom
+    line-is =
+        let c : length (flowCharacters b) ≡ flows b = characters-length b (head-ok b (g .walk .accepted)) in
+        let one : viewLine b i (viewAt (flows b) b (start .place)) ≡ lineOf i (parseRead (flows b) b (start .place))
+        = rw c at (line-viewed (flowCharacters b) b (start .place) i (g .bytes) (walk-accepted (g .walk) o h)) in
+        rw (walk-reads (g .walk) o h, add-one, w, f, one)
 
-    read-ok : readTest (flowCharacters b) b (pastIndex b p q) ≡ Accepted
-    read-ok = turn .1
+    pub listing-room : Room next (viewLine b i v) l
+    listing-room = coming-room (g .coming) (viewLine b i v) (linesFrom (i + 1) (drop (i + 1) (parse b .reads))) line-is
 
-    pub begins : pastIndex b p q + 16 ≤ length b
-    begins = fits-16 (flowCharacters b) b (pastIndex b p q) read-ok
-
-    rest : List ℕ
-    rest = linesFrom (suc i) (parseReads b m (readEnd (flows b) b (pastIndex b p q)) (nowPassed b p q))
-
-    piece : linesFrom i (parseReads b n p q) ≡ viewLine b i (viewAt (flows b) b (pastIndex b p q)) ++ rest
-    unfolding rest linesFrom parseReads
-    piece =
-        let c : length (flowCharacters b) ≡ flows b = characters-length b (g .head) in
-        let v : viewLine b i (viewAt (flows b) b (pastIndex b p q)) ≡ lineOf i (parseRead (flows b) b (pastIndex b p q))
-        = rw c at (line-viewed (flowCharacters b) b (pastIndex b p q) i (g .bytes) read-ok) in
-        rw (s, v)
-
-    -- what the code has of the read: its place x, of F flow values, and its view v
-    module _ (F x : ℕ) (v : ReadView) (f : F ≡ flows b) (o : x ≡ pastIndex b p q) (w : v ≡ viewAt F b x) where
-      line-is : linesFrom i (parseReads b n p q) ≡ viewLine b i v ++ rest
-      line-is = rw (w, o, f) piece
-
-      pub listing-room : Room next (viewLine b i v) l
-      listing-room = coming-room (g .coming) (viewLine b i v) rest line-is
-
-      pub listing-more : (z : ℕ) (t : Bool) (next′ : ℕ) (l′ : List ℕ) → Wrote next (viewLine b i v) l l′ next′ → z ≡ readEnd F b x → t ≡ nowPassed b p q
-          → Listing b l₀ at (i + 1) m z t next′ l′
-      unfolding rest
-      listing-more z t next′ l′ u e k =
-          rw (k, e, o, f, add-one)
-          (
-          record {
-            bytes = g .bytes;
-            head = g .head;
-            counted = let c = g .counted in omega arith;
-            inside = read-fits b (g .head) (pastIndex b p q) read-ok;
-            accepted = turn .2;
-            coming = coming-put (g .coming) (viewLine b i v) rest line-is u;
-          }
-          )
+    pub listing-more : {after : Boundary} {next′ : ℕ} {l′ : List ℕ} → Wrote next (viewLine b i v) l l′ next′ → after ≡ nextBoundary b start → Listing b l₀ at (i + 1) after next′ l′
+    listing-more u e = record {
+      bytes = g .bytes;
+      walk = walk-next (g .walk) o h e;
+      coming = coming-put (g .coming) (viewLine b i v) (linesFrom (i + 1) (drop (i + 1) (parse b .reads))) line-is u;
+    }

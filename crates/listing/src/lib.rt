@@ -19,13 +19,14 @@ use lines::inner::put_refusal_line;
 use lines::inner::put_too_long;
 use octets::stretch;
 use sff::file_test;
+use sff::inner::first_boundary;
+use sff::inner::next_boundary;
 use sff::inner::past_index;
 use sff_clips::first_base;
 use sff_clips::last_base;
 use sff_format::ReadView;
 use sff_header::Header;
 use sff_header::inner::header_fields;
-use sff_read::inner::read_end;
 use sff_read::inner::read_view;
 use sff_view::insert;
 use sff_view::name;
@@ -64,16 +65,13 @@ fn put_reads(file: &[u8], header: Header, out: &mut [u8], at: usize) -> usize
     let reads = header.reads;
     let mut next = at;
     let mut position = 0;
-    let mut place = header.length;
-    let mut passed = false;
+    let mut boundary = first_boundary(file, header);
     while position < reads {
-        let here = past_index(file, header, place, passed);
-        let start = here.place;
-        let view = read_view(file, start, flows);
+        let start = past_index(file, header, boundary);
+        let view = read_view(file, start.place, flows);
         next = put_view_line(file, view, position, out, next);
         position += 1;
-        place = read_end(file, start, flows);
-        passed = here.passed;
+        boundary = next_boundary(file, header, start);
     }
     next
 }

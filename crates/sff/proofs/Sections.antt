@@ -37,11 +37,6 @@ pub record Going (b : List ℕ) (whole : Answer) (n p : ℕ) (q : Bool) : Type 0
 pub going-start : (b : List ℕ) → headerTest b ≡ Accepted → (n p : ℕ) (q : Bool) → p ≤ length b → Going b (boundaryTest b n p q) n p q
 going-start b e n p q h = record { head = e; fits = h; is = refl }
 
--- an index that is passed is not due
-pub none-due : (b : List ℕ) (p : ℕ) → indexHere b p true ≡ false
-unfolding indexDue
-none-due b p = refl
-
 module _ {b : List ℕ} {w : Answer} {n p : ℕ} {q : Bool} (g : Going b w n p q) where
   module _ (h : indexHere b p q ≡ true) where
     -- what the boundary past the index asks

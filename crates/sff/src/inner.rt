@@ -1,13 +1,16 @@
-// What a boundary asks, for this crate and those above it, which have tested the header and know that the place lies in the file: hence each `requires`.
+// What a boundary asks, and the way from one to the next, for this crate and those above it, which have tested the header and know that the place lies in the file: hence each `requires`.
 ghost use mathlib.Core.Path.{_≡_};
-ghost use Prim.Native.Nat.{_≤_};
+ghost use Prim.Native.Nat.{_+_, _≤_};
 ghost use lib.ListN.{length};
-ghost use Rattle.sff_format.specs.FileTest.{indexDue, passTest, pastIndex, nowPassed, endTest};
+ghost use Rattle.sff_format.specs.FileTest.{indexDue, passTest, endTest};
+ghost use Rattle.sff_format.specs.Walk.{firstBoundary, readStart, nextBoundary, boundaryAt};
 ghost use Rattle.sff_header.specs.Header.{headerOf, Small};
 use answers::Answer;
+use sff_format::Boundary;
 use sff_header::Header;
 use sff_header::inner::index_size;
 use sff_header::inner::is_declared;
+use sff_read::inner::read_end;
 
 // Whether an index is declared at the boundary `place` and not yet passed.
 pub fn index_due(header: Header, place: usize, passed: bool) -> bool
@@ -44,24 +47,54 @@ pub fn end_test(s: &[u8], header: Header, place: usize, passed: bool) -> Answer
     Answer::Accepted
 }
 
-// A boundary: its place, and whether the index is passed.
-pub struct Boundary {
-    pub place: usize,
-    pub passed: bool,
+// Where a walk over the reads starts.
+pub fn first_boundary(s: &[u8], header: Header) -> Boundary
+    requires { ⌜ header ≡ headerOf (now s) ⌝ }
+    ensures { λ r. ⌜ r ≡ firstBoundary (now (s .entry)) ⌝ }
+{
+    Boundary {
+        place: header.length,
+        passed: false,
+    }
 }
 
-// The boundary past an index that is due.
-pub fn past_index(s: &[u8], header: Header, place: usize, passed: bool) -> Boundary
+// Where the read after a boundary starts: past an index that is due there.
+pub fn past_index(s: &[u8], header: Header, at: Boundary) -> Boundary
     requires { ⌜ header ≡ headerOf (now s) ⌝ }
     requires { ⌜ Small header ⌝ }
-    requires { ⌜ place ≤ length (now s) ⌝ }
-    ensures { λ r. ⌜ (r .place ≡ pastIndex (now (s .entry)) place passed) × (r .passed ≡ nowPassed (now (s .entry)) place passed) ⌝ }
+    requires { ⌜ at .place ≤ length (now s) ⌝ }
+    ensures { λ r. ⌜ r ≡ readStart (now (s .entry)) at ⌝ }
 {
-    if index_due(header, place, passed) {
+    if index_due(header, at.place, at.passed) {
         return Boundary {
-            place: place + index_size(header.index_length),
+            place: at.place + index_size(header.index_length),
             passed: true,
         };
     }
-    Boundary { place, passed }
+    at
+}
+
+// The boundary after the read that starts at one.
+pub fn next_boundary(s: &[u8], header: Header, start: Boundary) -> Boundary
+    requires { ⌜ header ≡ headerOf (now s) ⌝ }
+    requires { ⌜ Small header ⌝ }
+    requires { ⌜ start .place + 16 ≤ length (now s) ⌝ }
+    ensures { λ r. ⌜ r ≡ nextBoundary (now (s .entry)) start ⌝ }
+{
+    Boundary {
+        place: read_end(s, start.place, header.flows),
+        passed: start.passed,
+    }
+}
+
+// The boundary at the start of a read whose place is known.
+pub fn boundary_at(s: &[u8], header: Header, place: usize) -> Boundary
+    requires { ⌜ header ≡ headerOf (now s) ⌝ }
+    ensures { λ r. ⌜ r ≡ boundaryAt (now (s .entry)) place ⌝ }
+{
+    let declared = is_declared(header.index_offset, header.index_length);
+    Boundary {
+        place,
+        passed: declared & (header.index_offset < place),
+    }
 }

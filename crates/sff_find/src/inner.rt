@@ -3,41 +3,39 @@ ghost use mathlib.Core.Path.{_≡_};
 ghost use Prim.Native.Nat.{_+_, _≤_, _<_};
 ghost use lib.ListN.{length};
 ghost use Rattle.answers.specs.declared.Answer.the-variants.{Accepted};
-ghost use Rattle.sff_format.specs.HeaderTest.{headerTest, readCount};
+ghost use Rattle.sff_format.specs.HeaderTest.{readCount};
 ghost use Rattle.sff_format.specs.FileTest.{fileTest};
-ghost use Rattle.sff_format.specs.Places.{placeFrom, readPlace};
+ghost use Rattle.sff_format.specs.Places.{readPlace};
+ghost use Rattle.sff_format.specs.Walk.{Walk};
 ghost use Rattle.sff_format.specs.Position.{viewOf};
 ghost use Rattle.sff_header.specs.Header.{headerOf, Small};
-ghost use Rattle.sff_find.specs.Seek.{passedFrom, Ahead};
 ghost use Rattle.sff_find.specs.Mark.{Marked};
-use sff::inner::Boundary;
+use sff::inner::boundary_at;
+use sff::inner::first_boundary;
+use sff::inner::next_boundary;
 use sff::inner::past_index;
+use sff_format::Boundary;
 use sff_format::ReadView;
 use sff_header::Header;
 use sff_header::inner::header_fields;
-use sff_header::inner::is_declared;
-use sff_read::inner::read_end;
 use sff_read::inner::read_view;
 
-// From a boundary past n reads, and past any index, to the start of the next read.
-pub fn seek(s: &[u8], header: Header, from: Boundary, n: usize) -> Boundary
-    requires { ⌜ headerTest (now s) ≡ Accepted ⌝ }
+// From a boundary with some reads behind it to the start of the read at a position.
+fn seek(s: &[u8], header: Header, from: Boundary, behind: usize, position: usize) -> usize
     requires { ⌜ header ≡ headerOf (now s) ⌝ }
     requires { ⌜ Small header ⌝ }
-    requires { ⌜ Ahead (now s) n (from .place) (from .passed) ⌝ }
-    ensures { λ r. ⌜ (r .place ≡ placeFrom (now (s .entry)) n (from .place) (from .passed)) × (r .passed ≡ passedFrom (now (s .entry)) n (from .place) (from .passed)) ⌝ }
+    requires { ⌜ Walk (now s) behind from ⌝ }
+    requires { ⌜ (behind ≤ position) × (position < readCount (now s)) ⌝ }
+    ensures { λ r. ⌜ (r ≡ readPlace (now (s .entry)) position) × (r + 16 ≤ length (now (s .entry))) ⌝ }
 {
-    let flows = header.flows;
-    let mut place = from.place;
-    let mut passed = from.passed;
-    let mut left = n;
-    while 0 < left {
-        let here = past_index(s, header, place, passed);
-        place = read_end(s, here.place, flows);
-        passed = here.passed;
-        left -= 1;
+    let mut at = from;
+    let mut passed = behind;
+    while passed < position {
+        let start = past_index(s, header, at);
+        at = next_boundary(s, header, start);
+        passed += 1;
     }
-    past_index(s, header, place, passed)
+    past_index(s, header, at).place
 }
 
 // Where the read at a position of an accepted file starts.
@@ -47,11 +45,8 @@ pub fn find(s: &[u8], position: usize) -> usize
     ensures { λ r. ⌜ (r ≡ readPlace (now (s .entry)) position) × (r + 16 ≤ length (now (s .entry))) ⌝ }
 {
     let header = header_fields(s);
-    let start = Boundary {
-        place: header.length,
-        passed: false,
-    };
-    seek(s, header, start, position).place
+    let first = first_boundary(s, header);
+    seek(s, header, first, 0, position)
 }
 
 // A read whose place is known: its position, and where it starts.
@@ -72,13 +67,8 @@ pub fn find_on(s: &[u8], from: Mark, position: usize) -> usize
         return find(s, position);
     }
     let header = header_fields(s);
-    let passed = is_declared(header.index_offset, header.index_length)
-        & (header.index_offset < from.place);
-    let start = Boundary {
-        place: from.place,
-        passed,
-    };
-    seek(s, header, start, position - known).place
+    let start = boundary_at(s, header, from.place);
+    seek(s, header, start, known, position)
 }
 
 // What the read at a position of an accepted file says.

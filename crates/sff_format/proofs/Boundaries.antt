@@ -1,7 +1,7 @@
 -- The three things that a boundary can ask: an index, a read, the end. Assumes nothing.
 use Prim.Native.Nat.{ℕ, zero, suc, _+_}
 use mathlib.Core.Path.{_≡_, refl}
-use mathlib.Core.Bool.{Bool, true, false, not, _&&_, _||_}
+use mathlib.Core.Bool.{Bool, true, false, not, _&&_, or-true, or-false}
 use mathlib.Core.List.{List, [], _∷_}
 use native.Mathlib.Omega.{arith}
 use lib.Dec.{eqb}
@@ -12,17 +12,9 @@ use Rattle.sff_format.specs.Rules.{declared, indexSize}
 use Rattle.sff_format.specs.HeaderTest.{indexOffset, indexLength, flows, flowCharacters}
 use Rattle.sff_format.specs.ReadTest.{readTest, readEnd}
 use Rattle.sff_format.specs.FileTest.{indexDue, indexHere, passTest, indexTest, pastIndex, nowPassed, endTest, boundaryTest}
-use Rattle.answers.proofs.Answers.{first-ok, second-ok}
+use Rattle.answers.proofs.Answers.{and-both, first-ok, second-ok}
 use Rattle.sff_format.specs.Parse.{parseRead, parseReads}
 use Rattle.sff_format.specs.Places.{placeFrom}
-
-or-false : (q : Bool) → (q || false) ≡ q
-or-false true = refl
-or-false false = refl
-
-or-true : (q : Bool) → (q || true) ≡ true
-or-true true = refl
-or-true false = refl
 
 pub undeclared : (o l : ℕ) → declared o l ≡ false → (o ≡ 0) × (l ≡ 0)
 unfolding declared
@@ -59,6 +51,18 @@ here-not b p false n = rw (ne-eqb p (indexOffset b) n) (go (declared (indexOffse
 pub here-is : (b : List ℕ) (p : ℕ) → declared (indexOffset b) (indexLength b) ≡ true → p ≡ indexOffset b → indexHere b p false ≡ true
 unfolding indexDue
 here-is b p d e = rw (d, eq-eqb p (indexOffset b) e)
+
+pub here-told : (b : List ℕ) (p : ℕ) (q : Bool) → indexHere b p q ≡ true → (declared (indexOffset b) (indexLength b) ≡ true) × (p ≡ indexOffset b)
+unfolding indexDue
+here-told b p q h =
+    let there : Bool = eqb p (indexOffset b) in
+    let t = and-both (declared (indexOffset b) (indexLength b)) there (and-both (not q) (declared (indexOffset b) (indexLength b) && there) h .1) in
+    (t .0, eqb-true p (indexOffset b) (t .1))
+
+-- an index that is passed is not due
+pub none-due : (b : List ℕ) (p : ℕ) → indexHere b p true ≡ false
+unfolding indexDue
+none-due b p = refl
 
 -- what an accepted boundary tells, with no read left and with one
 pub accepted-none : (b : List ℕ) (p : ℕ) (q : Bool) → boundaryTest b 0 p q ≡ Accepted

@@ -15,7 +15,7 @@ pub mod Written
 pub mod Format
 -- A file that keeps the rules with another read in the place of one.
 pub mod Keeps
--- A file at a read; what is handed out of a read, and its insert; a read by its position; reading on; the reads before and after one.
+-- A file at a read; what is handed out of a read, and its insert; a read by its position; reading on; the reads before and after one; a walk over the reads.
 pub mod Split
 pub mod Places
 pub mod Views
@@ -24,6 +24,7 @@ pub mod Positions
 pub mod Steps
 pub mod ViewTests
 pub mod Runs
+pub mod Walks
 -- Writing: a read appended, one that is lent to be written, the writers one after another, and what they leave read back.
 pub mod Appended
 pub mod Given

@@ -32,7 +32,7 @@ use Rattle.sff_format.proofs.Indexes.{indexOf, pass-fits, index-laid}
 use Rattle.sff_format.proofs.Split.{Split, split}
 
 -- the read that is parsed at position i is the one at the place that the walk finds
-parse-at : (b : List ℕ) (n i p : ℕ) (q : Bool) → i < n → getD (parseReads b n p q) i noRead ≡ parseRead (flows b) b (placeFrom b i p q)
+pub parse-at : (b : List ℕ) (n i p : ℕ) (q : Bool) → i < n → getD (parseReads b n p q) i noRead ≡ parseRead (flows b) b (placeFrom b i p q)
 unfolding parseReads placeFrom
 parse-at b zero i p q h = absurd (omega arith)
 parse-at b (suc n) zero p q h = refl

@@ -7,6 +7,12 @@ pub struct Stretch {
     pub size: usize,
 }
 
+// A boundary of a file: its place, and whether the index is passed there.
+pub struct Boundary {
+    pub place: usize,
+    pub passed: bool,
+}
+
 // What a step says of a read: its place, where its contents lie, and its clips.
 pub struct ReadView {
     pub place: usize,

@@ -11,13 +11,14 @@ ghost use Rattle.sff_reader.specs.Forms.{stateOf, stepOf};
 use answers::Answer;
 use sff::inner::end_test;
 use sff::inner::index_due;
+use sff::inner::next_boundary;
 use sff::inner::pass_test;
 use sff::inner::past_index;
+use sff_format::Boundary;
 use sff_format::ReadView;
 use sff_header::Header;
 use sff_header::header_test;
 use sff_header::inner::header_fields;
-use sff_read::inner::read_end;
 use sff_read::inner::read_test;
 use sff_read::inner::read_view;
 
@@ -82,7 +83,7 @@ fn step_test(s: &[u8], reader: Reader) -> Answer
     let Answer::Accepted = index else {
         return index;
     };
-    let here = past_index(s, header, place, passed);
+    let here = past_index(s, header, Boundary { place, passed });
     read_or_none(s, header, here.place, reader.passed_reads, here.passed)
 }
 
@@ -93,14 +94,18 @@ fn found(s: &[u8], reader: Reader) -> Step
 {
     let header = header_fields(s);
     let flows = header.flows;
-    let here = past_index(s, header, reader.place, reader.passed_index);
-    let place = here.place;
-    let next = Reader {
-        place: read_end(s, place, flows),
-        passed_reads: reader.passed_reads + 1,
-        passed_index: here.passed,
+    let at = Boundary {
+        place: reader.place,
+        passed: reader.passed_index,
     };
-    Step::Found(read_view(s, place, flows), next)
+    let start = past_index(s, header, at);
+    let after = next_boundary(s, header, start);
+    let next = Reader {
+        place: after.place,
+        passed_reads: reader.passed_reads + 1,
+        passed_index: after.passed,
+    };
+    Step::Found(read_view(s, start.place, flows), next)
 }
 
 impl Reader {

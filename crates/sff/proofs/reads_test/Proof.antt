@@ -3,9 +3,10 @@ use mathlib.Core.Bool.{true}
 use native.Mathlib.Omega.{arith}
 use borrow.Author.Needs.{needs}
 use Rattle.sff_format.specs.FileTest.{boundaryTest}
+use Rattle.sff_format.proofs.Boundaries.{none-due}
 use Rattle.sff_format.proofs.ReadLaid.{fits-16}
 use Rattle.sff_header.proofs.Fields.{flows-of}
-use Rattle.sff.proofs.Sections.{characters-fit, none-due, Going, going-start, going-read, stop-end, stop-read}
+use Rattle.sff.proofs.Sections.{characters-fit, Going, going-start, going-read, stop-end, stop-read}
 use Rattle.sff.proofs.reads_test.Statement.{statement}
 use Rattle.sff.proofs.reads_test.Tie as tie
 

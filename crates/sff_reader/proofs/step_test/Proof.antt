@@ -1,5 +1,6 @@
-use mathlib.Core.Path.{sym, _∙_}
+use mathlib.Core.Path.{sym, ap, _∙_}
 use Rattle.answers.specs.Answer.{_then_, when}
+use Rattle.sff_format.specs.declared.Boundary.{Boundary}
 use Rattle.sff_format.specs.Step.{stepTest}
 use Rattle.answers.proofs.Answers.{tests}
 use Rattle.sff_format.proofs.HeaderLaws.{fits-31}
@@ -23,7 +24,7 @@ returns-3 c = search (tests, ← (c .before .before .before .before .before .bef
 returns-4 : tie.Need-returns-4
 unfolding stepTest _then_ when
 returns-4 c = let h = c .before .before .before .before .before in
-    search (tests, ← (h .before .before .before .before .header-test .ensures), h .before .before .enum-told .given .1, ← (c .before .before .before .before .index-test .ensures), c .before .before .enum-told3 .given .1, ← (c .before .past-index .ensures .0), ← (c .before .past-index .ensures .1), ← (c .read-or-none .ensures))
+    search (tests, ← (h .before .before .before .before .header-test .ensures), h .before .before .enum-told .given .1, ← (c .before .before .before .before .index-test .ensures), c .before .before .enum-told3 .given .1, ← (ap (λ (x : Boundary). x .place) (c .before .past-index .ensures)), ← (ap (λ (x : Boundary). x .passed) (c .before .past-index .ensures)), ← (c .read-or-none .ensures))
 
 pub step-test-spec : {M : Type 1} → statement M
 step-test-spec =
@@ -43,5 +44,5 @@ step-test-spec =
     (λ c κs.
     let h = c .before .before .before .before in
     let i = past-fits _ _ _ (h .before .if1 .left) (sym (c .before .before .before .index-test .ensures) ∙ c .before .enum-told3 .given .1) in
-    (sym (h .before .before .before .before .header-test .ensures) ∙ h .before .before .enum-told .given .1, (h .header-fields .ensures .0, (h .header-fields .ensures .1, rw (c .past-index .ensures .0) i))))
+    (sym (h .before .before .before .before .header-test .ensures) ∙ h .before .before .enum-told .given .1, (h .header-fields .ensures .0, (h .header-fields .ensures .1, rw (c .past-index .ensures) i))))
     returns-4)

@@ -1,5 +1,5 @@
+-- An index that is due is passed; where none is, the read starts at the boundary.
 use native.Mathlib.Omega.{arith}
-use mathlib.Core.Path.{sym}
 use mathlib.Core.Bool.{true, false}
 use Rattle.sff_format.proofs.Boundaries.{no-past, no-pass, past, pass}
 use Rattle.sff_format.proofs.Sizes.{size-most}
@@ -9,12 +9,23 @@ use borrow.Author.Needs.{needs}
 use Rattle.sff.proofs.inner.past_index.Statement.{statement}
 use Rattle.sff.proofs.inner.past_index.Tie as tie
 
+add-t6 : tie.Need-add-t6
+add-t6 c = let l = c .before .before .before .before .before .args .header .«index_length» in omega (arith, size-most l)
+
+returns : tie.Need-returns
+returns c =
+    let size = c .before in
+    let due = size .before .before in
+    let d = due .before .before in
+    let h = due-is (d .args .header) _ (d .pre .0) _ _ _ (due .index-due .ensures) true (size .before .if1 .taken) in
+    rw (past _ _ _ h, pass _ _ _ h, index-length-of (d .args .header) _ (d .pre .0), ← (size .index-size .ensures))
+
+returns-2 : tie.Need-returns-2
+returns-2 c =
+    let due = c .before in
+    let d = due .before .before in
+    let h = due-is (d .args .header) _ (d .pre .0) _ _ _ (due .index-due .ensures) false (c .if1 .left) in
+    rw (no-past _ _ _ h, no-pass _ _ _ h)
+
 pub past-index-spec : {M : Type 1} → statement M
-past-index-spec =
-    tie.close (tie.spec (λ c κs. search needs) (λ c κs. search needs) (λ c. let l = c .before .before .before .before .args .header .«index_length» in omega (arith, size-most l)) (λ c.
-    let d = c .before .before .before .before in
-    let h = due-is (d .args .header) _ (d .pre .0) _ _ _ (c .before .before .index-due .ensures) true (c .before .if1 .taken) in
-    (rw (past _ _ _ h, index-length-of (d .args .header) _ (d .pre .0), ← (c .index-size .ensures)), sym (pass _ _ _ h))) (λ c.
-    let d = c .before .before .before in
-    let h = due-is (d .args .header) _ (d .pre .0) _ _ _ (c .before .index-due .ensures) false (c .if1 .left) in
-    (sym (no-past _ _ _ h), sym (no-pass _ _ _ h))))
+past-index-spec = tie.close (tie.spec (λ c κs. search needs) (λ c κs. search needs) add-t6 returns returns-2)

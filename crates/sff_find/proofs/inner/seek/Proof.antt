@@ -1,16 +1,33 @@
-use mathlib.Core.Path.{sym}
+-- At each turn as many reads are behind the boundary as were passed.
+use Prim.Native.Nat.{_-_, _≤_}
+use mathlib.Core.Path.{_≡_, ap, _∙_}
+use Rattle.sff_format.specs.Places.{readPlace}
+use Rattle.sff_format.specs.Walk.{Walk}
 use native.Mathlib.Omega.{arith}
 use borrow.Author.Needs.{needs}
-use Rattle.sff_header.proofs.Fields.{flows-of}
-use Rattle.sff_find.proofs.Seeking.{Seeking, seeking-start, seeking-inside, seeking-begins, seeking-more, seeking-done}
+use Rattle.sff_format.proofs.Walks.{walk-place, walk-begins, walk-next}
 use Rattle.sff_find.proofs.inner.seek.Statement.{statement}
 use Rattle.sff_find.proofs.inner.seek.Tie as tie
 
 abbrev Inv-loop : tie.InvT-loop
-Inv-loop s header n flows place₀ passed₀ left₀ place passed left = Seeking s n place₀ passed₀ left place passed
+Inv-loop s header behind position at₀ passed₀ at passed = Walk s passed at × (passed ≤ position)
 
 abbrev μ-loop : tie.MeasureT-loop
-μ-loop s header n flows place₀ passed₀ left₀ place passed left = left
+μ-loop s header behind position at₀ passed₀ at passed = position - passed
+
+next-boundary-requires : tie.Need-next-boundary-requires Inv-loop μ-loop
+next-boundary-requires c κs = let d = c .before .before .before .before in
+    (d .pre .0, (d .pre .1 .0, walk-begins (c .before .before .loop .inv .0) (c .past-index .ensures) (omega arith)))
+
+loop-again : tie.Need-loop-again Inv-loop μ-loop
+loop-again c = (walk-next (c .before .before .before .loop .inv .0) (c .before .past-index .ensures) (omega arith) (c .next-boundary .ensures), omega arith)
+
+returns : tie.Need-returns Inv-loop μ-loop
+returns c =
+    let loop = c .before .before .loop in
+    let arrived : loop .passed ≡ c .before .before .before .before .args .position = omega arith in
+    let here = c .past-index2 .ensures in
+    (walk-place (loop .inv .0) here ∙ ap (readPlace _) arrived, walk-begins (loop .inv .0) here (omega arith))
 
 pub seek-spec : {M : Type 1} → statement M
 seek-spec =
@@ -18,14 +35,11 @@ seek-spec =
     (tie.spec
     Inv-loop
     μ-loop
-    (λ c. let d = c .before in seeking-start _ _ _ _ (d .pre .0) (d .pre .1 .1 .1))
-    (λ c κs. let d = c .before .before .before in (d .pre .1 .0, (d .pre .1 .1 .0, seeking-inside (c .before .loop .inv))))
-    (λ c κs. (seeking-begins (c .before .before .loop .inv) (omega arith) _ (c .past-index .ensures .0), search needs))
+    (λ c. search needs)
+    (λ c κs. search needs)
+    next-boundary-requires
     (λ c. search needs)
     (λ c. search needs)
-    (λ c.
-    let d = c .before .before .before .before .before in
-    let p = c .before .past-index .ensures in
-    seeking-more (c .before .before .before .loop .inv) (omega arith) _ (p .0) _ _ _ (sym (flows-of (d .args .header) _ (d .pre .1 .0))) (c .read-end .ensures) (p .1))
-    (λ c κs. let d = c .before .before .before in (d .pre .1 .0, (d .pre .1 .1 .0, seeking-inside (c .before .loop .inv))))
-    (λ c. seeking-done (c .before .before .loop .inv) _ _ (omega arith) (c .past-index2 .ensures)))
+    loop-again
+    (λ c κs. search needs)
+    returns)

@@ -1,10 +1,13 @@
-// A function that puts text asks for the room that it fills, which the crates above have measured, and answers the place after what it put. The others measure.
+// A function that puts text asks for the room that it fills, which the crates above have measured, and answers the place after what it put. The others measure:
+// a line's length, what it leaves of some room, or whether it fits before it is written.
 ghost use mathlib.Core.Path.{_≡_};
 ghost use Prim.Native.Nat.{_+_, _-_, _≤_};
 ghost use lib.ListN.{length};
 ghost use Rattle.octets.specs.Parts.{putAt};
-ghost use Rattle.text.specs.Writing.{Room};
+ghost use Rattle.text.specs.Writing.{Room, fitted, written};
 ghost use Rattle.lines.specs.Lines.{numberField, wordField, labelledNumber, labelledWord, headerLine, extent, readLine, refusalLine, tooLong, answerLine};
+use answers::Answer;
+use text::Written;
 use text::inner::number_length;
 use text::inner::put_byte;
 use text::inner::put_bytes;
@@ -106,15 +109,6 @@ pub fn put_refusal_line(out: &mut [u8], at: usize, number: usize, place: usize) 
     put_labelled_number(out, next, b"at ", place, b'\n')
 }
 
-// Puts the line of an input that is too long.
-pub fn put_too_long(out: &mut [u8], at: usize) -> usize
-    requires { ⌜ Room at tooLong (now out) ⌝ }
-    ensures { λ r. ⌜ r ≡ at + length tooLong ⌝ }
-    ensures { λ _. ⌜ now (out .exit) ≡ putAt at tooLong (now (out .entry)) ⌝ }
-{
-    put_bytes(out, at, b"too long\n")
-}
-
 // Puts the line of a list run's answer.
 pub fn put_answer_line(
     out: &mut [u8],
@@ -173,4 +167,40 @@ pub fn answer_length(count: usize, number: usize, place: usize, size: usize) -> 
     ensures { λ r. ⌜ r ≤ 110 ⌝ }
 {
     number_length(count) + number_length(number) + number_length(place) + number_length(size) + 30
+}
+
+// Puts the line of a refusal at the front of `out`, if it fits.
+pub fn write_refusal(out: &mut [u8], number: usize, place: usize) -> Written
+    ensures { λ r. ⌜ r ≡ written (fitted (length (now (out .entry))) (refusalLine number place)) ⌝ }
+    ensures { λ _. ⌜ now (out .exit) ≡ putAt 0 (fitted (length (now (out .entry))) (refusalLine number place) .text) (now (out .entry)) ⌝ }
+{
+    if out.len() < refusal_length(number, place) {
+        return Written {
+            answer: Answer::Refused(26, 0),
+            length: 0,
+        };
+    }
+    let length = put_refusal_line(out, 0, number, place);
+    Written {
+        answer: Answer::Accepted,
+        length,
+    }
+}
+
+// Puts the line of an input that is too long at the front of `out`, if it fits.
+pub fn write_too_long(out: &mut [u8]) -> Written
+    ensures { λ r. ⌜ r ≡ written (fitted (length (now (out .entry))) tooLong) ⌝ }
+    ensures { λ _. ⌜ now (out .exit) ≡ putAt 0 (fitted (length (now (out .entry))) tooLong .text) (now (out .entry)) ⌝ }
+{
+    if out.len() < 9 {
+        return Written {
+            answer: Answer::Refused(26, 0),
+            length: 0,
+        };
+    }
+    let length = put_bytes(out, 0, b"too long\n");
+    Written {
+        answer: Answer::Accepted,
+        length,
+    }
 }

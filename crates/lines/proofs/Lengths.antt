@@ -1,7 +1,7 @@
 -- How long each line is, and can be: what the code measures, and what room is enough for any. Assumes nothing.
 use mathlib.Core.Path.{_≡_}
 use mathlib.Core.List.{List}
-use Prim.Native.Nat.{ℕ, _+_, _≤_}
+use Prim.Native.Nat.{ℕ, _+_, _-_, _≤_}
 use native.Mathlib.Omega.{arith}
 use lib.ListN.{length, length-append}
 use Rattle.text.specs.Writing.{orDash}
@@ -46,3 +46,7 @@ module _ (count number place size : ℕ) where
   pub answer-line-short : length (answerLine count number place size) ≤ 110
   answer-line-short =
       rw answer-line-length (omega (arith, decimal-short count, decimal-short number, decimal-short place, decimal-short size))
+
+-- n bytes are taken from what two words leave of the room
+pub after-words : (room a b n l : ℕ) {left left′ r : ℕ} → left ≡ room - a → left′ ≡ left - b → r ≡ left′ - n → l ≡ a + b + n → r ≡ room - l
+after-words room a b n l e f g h = omega (arith, e, f, g, h)

@@ -11,8 +11,8 @@ use answers::Answer;
 use lines::inner::answer_length;
 use lines::inner::put_answer_line;
 use lines::inner::put_refusal_line;
-use lines::inner::put_too_long;
 use lines::inner::refusal_length;
+use lines::inner::write_too_long;
 use sff_correction::ListOutcome;
 use text::Written;
 
@@ -20,7 +20,6 @@ use text::Written;
 fn put_carried_out(out: &mut [u8], count: usize, size: usize) -> Written
     ensures { λ r. ⌜ r ≡ written (fitted (length (now (out .entry))) (answerLine count 0 0 size)) ⌝ }
     ensures { λ _. ⌜ now (out .exit) ≡ putAt 0 (fitted (length (now (out .entry))) (answerLine count 0 0 size) .text) (now (out .entry)) ⌝ }
-    ensures { λ r. ⌜ Counts (r .length) (now (out .exit)) ⌝ }
 {
     if out.len() < answer_length(count, 0, 0, size) {
         return Written {
@@ -39,7 +38,6 @@ fn put_carried_out(out: &mut [u8], count: usize, size: usize) -> Written
 fn put_refused(out: &mut [u8], count: usize, number: usize, place: usize, size: usize) -> Written
     ensures { λ r. ⌜ r ≡ written (fitted (length (now (out .entry))) (answerLine count number place size ++ refusalLine number place)) ⌝ }
     ensures { λ _. ⌜ now (out .exit) ≡ putAt 0 (fitted (length (now (out .entry))) (answerLine count number place size ++ refusalLine number place) .text) (now (out .entry)) ⌝ }
-    ensures { λ r. ⌜ Counts (r .length) (now (out .exit)) ⌝ }
 {
     if out.len() < answer_length(count, number, place, size) + refusal_length(number, place) {
         return Written {
@@ -74,17 +72,7 @@ pub fn too_long(out: &mut [u8]) -> Written
     ensures { λ _. ⌜ now (out .exit) ≡ putAt 0 (fitted (length (now (out .entry))) tooLong .text) (now (out .entry)) ⌝ }
     ensures { λ r. ⌜ Counts (r .length) (now (out .exit)) ⌝ }
 {
-    if out.len() < 9 {
-        return Written {
-            answer: Answer::Refused(26, 0),
-            length: 0,
-        };
-    }
-    let length = put_too_long(out, 0);
-    Written {
-        answer: Answer::Accepted,
-        length,
-    }
+    write_too_long(out)
 }
 
 // Room for whatever is printed.

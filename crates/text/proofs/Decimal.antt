@@ -87,8 +87,6 @@ counted-more k n h f e = rw e (sym (more-length k n h f))
 pub counted-short : (k n : ℕ) {r : ℕ} → r ≡ length (decimalOf k n) → r ≤ k
 counted-short k n e = rw e (digits-short k n)
 
-pub ruleset counts = (counted-none, counted-one, counted-more, needs)
-
 pub decimal-short : (n : ℕ) → length (decimal n) ≤ 20
 decimal-short n = digits-short 20 n
 

@@ -157,8 +157,6 @@ dash-length xs e = rw (dash xs e)
 pub word-length : (xs : List ℕ) → (length xs ≡ 0 → ⊥) → length xs ≡ length (orDash xs)
 word-length xs h = rw (word xs h)
 
-pub ruleset lengths = (dash-length, word-length, needs)
-
 pub dash-short : (xs : List ℕ) → length (orDash xs) ≤ 1 + length xs
 unfolding orDash
 dash-short [] = omega arith

@@ -1,16 +1,7 @@
--- The line has 9 bytes.
-use native.Mathlib.Omega.{arith}
 use borrow.Author.Needs.{needs}
-use Rattle.text.proofs.Writing.{room}
-use Rattle.text.proofs.Fitted.{none-put, all-put}
+use Rattle.text.proofs.Fitted.{counted}
 use Rattle.report.proofs.too_long.Statement.{statement}
 use Rattle.report.proofs.too_long.Tie as tie
 
-returns : tie.Need-returns
-returns c = none-put _ _ (omega arith)
-
-returns-2 : tie.Need-returns-2
-returns-2 c = all-put _ _ (room (omega arith)) (c .before .before .put-too-long .ensures)
-
 pub too-long-spec : {M : Type 1} → statement M
-too-long-spec = tie.close (tie.spec returns (λ c κs. search needs) (λ c. search needs) returns-2)
+too-long-spec = tie.close (tie.spec (λ c κs. search needs) (λ c. search needs) (λ c. counted _ _ (c .before .before .write-too-long .ensures)))

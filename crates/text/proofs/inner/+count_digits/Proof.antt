@@ -4,7 +4,7 @@ use native.Mathlib.Omega.{arith}
 use borrow.Author.Needs.{needs}
 use borrow.Fn.Kinds.{In}
 use borrow.Fn.PlainCycle.{Measures, is, falls, and}
-use Rattle.text.proofs.Decimal.{counts, counted-short}
+use Rattle.text.proofs.Decimal.{counted-none, counted-one, counted-more, counted-short}
 use Rattle.text.proofs.inner.count_digits.Reads as count-digits
 use Rattle.text.proofs.inner.count_digits.Kinds as count-digits-kinds
 use Rattle.text.proofs.inner.+count_digits.Lts-count_digits as count-digits-lts
@@ -29,9 +29,9 @@ pub +count-digits-spec : {M : Type 1} → statement M
 )
     (count-digits-at t)
     count-digits.Post
-    (λ c. search counts)
-    (λ c. search counts)
+    (λ c. counted-none _ _ (c .if1 .taken))
+    (λ c. counted-one _ _ (c .before .if1 .left) (c .if2 .taken))
     (λ c. search needs)
     (λ c κs. search needs)
     (λ c. omega (arith, counted-short _ _ (c .count-digits .ensures)))
-    (λ c. search counts)
+    (λ c. counted-more _ _ (c .before .before .if1 .left) (c .before .if2 .left) (c .count-digits .ensures))

@@ -48,7 +48,7 @@ module _ (xs l : List ℕ) where
       let e : n ≡ length xs = f .0 in
       rw (fits (length l) xs h) (ap (λ (m : ℕ). record { answer = Accepted; length = m }) e, f .1)
 
-  fitted-short : length (fitted (length l) xs .text) ≤ length l
+  pub fitted-short : length (fitted (length l) xs .text) ≤ length l
   unfolding fitted when acceptedOr
   fitted-short = go (ltb (length l) (length xs)) refl
     where

@@ -9,58 +9,53 @@ use lib.Seq.{length-take-le}
 use Rattle.octets.specs.Parts.{filled}
 use Rattle.answers.specs.declared.Answer.the-variants.{Accepted, Refused}
 use Rattle.filter_format.specs.declared.Filtered.{Filtered}
-use Rattle.filter_format.specs.Undo.{Result, filtered, firstAfter, undo}
+use Rattle.filter_format.specs.Undo.{Result, filtered, firstAfter, secondAfter, undo}
 use Rattle.filters.proofs.Buffers.{held-filled}
 use Rattle.text.specs.declared.Written.{Written}
 use Rattle.text.specs.Writing.{fitted, written}
-use Rattle.text.proofs.Writing.{Wrote}
-use Rattle.text.proofs.Fitted.{fits, fits-not}
+use Rattle.text.proofs.Fitted.{fits, Put, fitted-short}
 use Rattle.lines.specs.Lines.{refusalLine, tooLong}
 use Rattle.unfiltering.specs.Unfiltering.{answered, textOf, unfilterText}
 
--- the text is put into l, if it fits, and l is zero behind it: the promises on the first buffer
-abbrev pub Holds : List ℕ → List ℕ → List ℕ → Written → Type 0
-Holds text l l′ r =
-    (r ≡ written (fitted (length l) text))
-    × ((l′ ≡ filled (length l) (fitted (length l) text .text)) × ((r .length ≤ length l′) × (r .length ≡ length (take (r .length) l′))))
+-- the text stands at the front of l′, if it fits into l, and zeros behind it; the second buffer is zero: the three promises of a function that prints
+abbrev pub Holds : List ℕ → List ℕ → List ℕ → List ℕ → List ℕ → Written → Type 0
+Holds text l l′ m m′ r = (r ≡ written (fitted (length l) text)) × ((l′ ≡ filled (length l) (fitted (length l) text .text)) × (m′ ≡ secondAfter m))
+
+-- what was put at the front, and what stands behind it cleared
+pub cleared : (xs l l₁ : List ℕ) {l′ : List ℕ} {r : Written} → Put xs l l₁ r → l′ ≡ filled (length l₁) (take (r .length) l₁)
+    → l′ ≡ filled (length l) (fitted (length l) xs .text)
+cleared xs l l₁ p e = held-filled (record { fits = fitted-short xs l; is = p .1; count = ap (λ (w : Written). w .length) (p .0) }) e
 
 filled-least : (n : ℕ) (xs : List ℕ) → length xs ≤ length (filled n xs)
 unfolding filled
 filled-least n xs = rw (length-append xs (replicate (n - length xs) 0)) (omega arith)
 
-module _ (xs l : List ℕ) where
-  pub none-held : length l < length xs → {l′ : List ℕ} → l′ ≡ filled (length l) (take 0 l) → Holds xs l l′ (record { answer = Refused 26 0; length = 0 })
-  none-held h e = rw (fits-not (length l) xs h) (refl, (e, (omega arith, refl)))
-
-  -- the list that is left is as long as the one that was lent
-  pub data-held : {l′ : List ℕ} → l′ ≡ filled (length l) xs → length l′ ≡ length l → Holds xs l l′ (record { answer = Accepted; length = length xs })
-  data-held {l′} e same =
-      let most = filled-least (length l) xs in
-      let k : length xs ≤ length l′ = rw e most in
-      rw (fits (length l) xs (omega arith)) (refl, (e, (k, sym (length-take-le (length xs) l′ k))))
-
-  -- a line is put, and what stands behind it cleared
-  pub line-held : length xs ≤ length l → {l₁ l₂ : List ℕ} {n : ℕ} → Wrote 0 xs l l₁ n → l₂ ≡ filled (length l₁) (take n l₁) → length l₂ ≡ length l
-      → Holds xs l l₂ (record { answer = Accepted; length = n })
-  line-held h {l₁} {l₂} {n} w e same =
-      let i : n ≡ length xs = let m = w .0 in omega arith in
-      rw i (data-held (held-filled {n = n} (record { fits = h; is = w .1; count = i }) e) same)
-
--- x is what a call comes to, f its answer
-module _ (x : Result) {f : Filtered} (is : f ≡ filtered x) (l : List ℕ) where
-  pub undone-held : f .answer ≡ Accepted → {l′ : List ℕ} → l′ ≡ firstAfter x l → length l′ ≡ length l → Holds (textOf x) l l′ (record { answer = Accepted; length = f .made })
+-- x is what undoing comes to, f its answer, and l₁ and m′ what it leaves
+module _ (x : Result) {f : Filtered} (is : f ≡ filtered x) (l l₁ m : List ℕ) {m′ : List ℕ} (same : length l₁ ≡ length l) (zeroed : m′ ≡ secondAfter m) where
+  pub data-held : f .answer ≡ Accepted → l₁ ≡ firstAfter x l → Holds (textOf x) l l₁ m m′ (record { answer = Accepted; length = f .made })
   unfolding answered
-  undone-held e held same =
+  data-held e held =
       let a : x .answer ≡ Accepted = sym (ap (λ (g : Filtered). g .answer) is) ∙ e in
-      let m : f .made ≡ length (x .bytes) = ap (λ (g : Filtered). g .made) is in
-      rw (a, m) (data-held (x .bytes) l held same)
+      let n : f .made ≡ length (x .bytes) = ap (λ (g : Filtered). g .made) is in
+      let most = filled-least (length l) (x .bytes) in
+      let h : length (x .bytes) ≤ length l = omega (arith, ap length held) in
+      rw (a, n, fits (length l) (x .bytes) h) (refl, (held, zeroed))
 
-  pub refused-held : (n p : ℕ) → f .answer ≡ Refused n p → (l₁ : List ℕ) → length l₁ ≡ length l → {l′ : List ℕ} {r : Written}
-      → Holds (refusalLine n p) l₁ l′ r → Holds (textOf x) l l′ r
+  pub refusal-held : (n p : ℕ) → f .answer ≡ Refused n p → {l₂ l′ : List ℕ} {r : Written} → Put (refusalLine n p) l₁ l₂ r → l′ ≡ filled (length l₂) (take (r .length) l₂)
+      → Holds (textOf x) l l′ m m′ r
   unfolding answered
-  refused-held n p e l₁ same h =
+  refusal-held n p e {l₂} w c =
       let a : x .answer ≡ Refused n p = sym (ap (λ (g : Filtered). g .answer) is) ∙ e in
-      rw (a, ← same) h
+      rw (a, ← same) (w .0, (cleared (refusalLine n p) l₁ l₂ w c, zeroed))
+
+-- the length counts bytes of the first buffer: the fourth promise of the entry point
+pub printed : (text l l′ m m′ : List ℕ) {r : Written} → Holds text l l′ m m′ r
+    → (r ≡ written (fitted (length l) text)) × ((l′ ≡ filled (length l) (fitted (length l) text .text)) × ((m′ ≡ secondAfter m) × ((r .length ≤ length l′) × (r .length ≡ length (take (r .length) l′)))))
+printed text l l′ m m′ {r} h =
+    let n : r .length ≡ length (fitted (length l) text .text) = ap (λ (w : Written). w .length) (h .0) in
+    let most = filled-least (length l) (fitted (length l) text .text) in
+    let k : r .length ≤ length l′ = omega (arith, ap length (h .1 .0)) in
+    (h .0, (h .1 .0, (h .1 .1, (k, sym (length-take-le (r .length) l′ k)))))
 
 module _ (room : ℕ) (b : List ℕ) where
   pub long-text : 65536 < length b → unfilterText room b ≡ tooLong

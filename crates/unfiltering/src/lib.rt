@@ -5,63 +5,19 @@ ghost use Rattle.octets.specs.Parts.{filled};
 ghost use Rattle.filter_format.specs.Undo.{roomOf, secondAfter, undo};
 ghost use Rattle.io.specs.Counts.{Counts};
 ghost use Rattle.text.specs.Writing.{fitted, written};
-ghost use Rattle.lines.specs.Lines.{refusalLine, tooLong};
+ghost use Rattle.lines.specs.Lines.{tooLong};
 ghost use Rattle.unfiltering.specs.Unfiltering.{textOf, printedBy};
 use answers::Answer;
 use buffers::inner::clear_behind;
 use filters::undo;
-use lines::inner::put_refusal_line;
-use lines::inner::put_too_long;
-use lines::inner::refusal_length;
+use lines::inner::write_refusal;
+use lines::inner::write_too_long;
 use text::Written;
-
-// Puts the line of an input that is too long.
-fn put_long(first: &mut [u8]) -> Written
-    ensures { λ r. ⌜ r ≡ written (fitted (length (now (first .entry))) tooLong) ⌝ }
-    ensures { λ _. ⌜ now (first .exit) ≡ filled (length (now (first .entry))) (fitted (length (now (first .entry))) tooLong .text) ⌝ }
-    ensures { λ r. ⌜ Counts (r .length) (now (first .exit)) ⌝ }
-{
-    if first.len() < 9 {
-        clear_behind(first, 0);
-        return Written {
-            answer: Answer::Refused(26, 0),
-            length: 0,
-        };
-    }
-    let length = put_too_long(first, 0);
-    clear_behind(first, length);
-    Written {
-        answer: Answer::Accepted,
-        length,
-    }
-}
-
-// Puts the line of a refusal.
-fn put_refusal(first: &mut [u8], number: usize, place: usize) -> Written
-    ensures { λ r. ⌜ r ≡ written (fitted (length (now (first .entry))) (refusalLine number place)) ⌝ }
-    ensures { λ _. ⌜ now (first .exit) ≡ filled (length (now (first .entry))) (fitted (length (now (first .entry))) (refusalLine number place) .text) ⌝ }
-    ensures { λ r. ⌜ Counts (r .length) (now (first .exit)) ⌝ }
-{
-    if first.len() < refusal_length(number, place) {
-        clear_behind(first, 0);
-        return Written {
-            answer: Answer::Refused(26, 0),
-            length: 0,
-        };
-    }
-    let length = put_refusal_line(first, 0, number, place);
-    clear_behind(first, length);
-    Written {
-        answer: Answer::Accepted,
-        length,
-    }
-}
 
 // Puts a block's data, or the line of its refusal.
 fn put_undone(block: &[u8], first: &mut [u8], second: &mut [u8]) -> Written
     ensures { λ r. ⌜ r ≡ written (fitted (length (now (first .entry))) (textOf (undo (roomOf (now (first .entry)) (now (second .entry))) (now (block .entry))))) ⌝ }
     ensures { λ _. ⌜ now (first .exit) ≡ filled (length (now (first .entry))) (fitted (length (now (first .entry))) (textOf (undo (roomOf (now (first .entry)) (now (second .entry))) (now (block .entry)))) .text) ⌝ }
-    ensures { λ r. ⌜ Counts (r .length) (now (first .exit)) ⌝ }
     ensures { λ _. ⌜ now (second .exit) ≡ secondAfter (now (second .entry)) ⌝ }
 {
     let result = undo(block, first, second);
@@ -72,7 +28,21 @@ fn put_undone(block: &[u8], first: &mut [u8], second: &mut [u8]) -> Written
             length: result.made,
         };
     };
-    put_refusal(first, number as usize, place)
+    let written = write_refusal(first, number as usize, place);
+    clear_behind(first, written.length);
+    written
+}
+
+// Puts the line of an input that is too long.
+fn put_long(first: &mut [u8], second: &mut [u8]) -> Written
+    ensures { λ r. ⌜ r ≡ written (fitted (length (now (first .entry))) tooLong) ⌝ }
+    ensures { λ _. ⌜ now (first .exit) ≡ filled (length (now (first .entry))) (fitted (length (now (first .entry))) tooLong .text) ⌝ }
+    ensures { λ _. ⌜ now (second .exit) ≡ secondAfter (now (second .entry)) ⌝ }
+{
+    let written = write_too_long(first);
+    clear_behind(first, written.length);
+    clear_behind(second, 0);
+    written
 }
 
 // Puts what `unfilter` prints of an input at the front of `first`, and answers how many bytes it has; 26 exactly if `first` is shorter.
@@ -80,12 +50,11 @@ fn put_undone(block: &[u8], first: &mut [u8], second: &mut [u8]) -> Written
 pub fn print(input: &[u8], first: &mut [u8], second: &mut [u8]) -> Written
     ensures { λ r. ⌜ r ≡ written (printedBy (now (first .entry)) (now (second .entry)) (now (input .entry))) ⌝ }
     ensures { λ _. ⌜ now (first .exit) ≡ filled (length (now (first .entry))) (printedBy (now (first .entry)) (now (second .entry)) (now (input .entry)) .text) ⌝ }
-    ensures { λ r. ⌜ Counts (r .length) (now (first .exit)) ⌝ }
     ensures { λ _. ⌜ now (second .exit) ≡ secondAfter (now (second .entry)) ⌝ }
+    ensures { λ r. ⌜ Counts (r .length) (now (first .exit)) ⌝ }
 {
     if input.len() > 65536 {
-        clear_behind(second, 0);
-        return put_long(first);
+        return put_long(first, second);
     }
     put_undone(input, first, second)
 }

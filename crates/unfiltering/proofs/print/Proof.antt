@@ -1,27 +1,31 @@
 -- The text is `too long`, or what is printed of the block.
-use native.Mathlib.Omega.{arith}
 use borrow.Author.Needs.{needs}
-use Rattle.unfiltering.proofs.Texts.{long-text, block-text}
+use Rattle.filter_format.specs.Undo.{roomOf, undo}
+use Rattle.lines.specs.Lines.{tooLong}
+use Rattle.unfiltering.specs.Unfiltering.{textOf}
+use Rattle.unfiltering.proofs.Texts.{long-text, block-text, printed}
 use Rattle.unfiltering.proofs.print.Statement.{statement}
 use Rattle.unfiltering.proofs.print.Tie as tie
 
 returns : tie.Need-returns
 returns c =
-    let put = c .before .before in
-    let cleared = put .before .before .before .before in
-    let h = put .put-long .ensures in
-    rw (long-text _ _ (cleared .before .before .if1 .taken)) (h .0, (h .1 .0, (h .1 .1, cleared .clear-behind .ensures)))
+    let put = c .before .before .before .before in
+    let tested = put .before .before .before in
+    let a = tested .before .before .before .before .args in
+    rw (long-text _ _ (tested .if1 .taken)) (printed tooLong (a .first .now) _ (a .second .now) _ (put .put-long .ensures))
 
 returns-2 : tie.Need-returns-2
 returns-2 c =
     let put = c .before .before .before .before in
-    rw (block-text _ _ (put .before .before .before .if1 .left)) (put .put-undone .ensures)
+    let tested = put .before .before .before in
+    let a = tested .before .before .before .before .args in
+    let text = textOf (undo (roomOf (a .first .now) (a .second .now)) (a .input .now)) in
+    rw (block-text _ _ (tested .if1 .left)) (printed text (a .first .now) _ (a .second .now) _ (put .put-undone .ensures))
 
 pub print-spec : {M : Type 1} → statement M
 print-spec =
     tie.close
     (tie.spec
-    (λ c κs. search needs)
     (λ c κs. search needs)
     (λ c. search needs)
     (λ c. search needs)

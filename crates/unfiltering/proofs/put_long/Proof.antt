@@ -1,31 +1,30 @@
--- The line has 9 bytes; what stands behind it is cleared.
-use native.Mathlib.Omega.{arith}
+-- The line is put if it fits, and the rest of both buffers is cleared.
 use borrow.Author.Needs.{needs}
+use Rattle.text.proofs.Fitted.{counted}
 use Rattle.lines.specs.Lines.{tooLong}
-use Rattle.unfiltering.proofs.Texts.{none-held, line-held}
+use Rattle.unfiltering.proofs.Texts.{cleared}
 use Rattle.unfiltering.proofs.put_long.Statement.{statement}
 use Rattle.unfiltering.proofs.put_long.Tie as tie
 
+clear-behind-requires : tie.Need-clear-behind-requires
+clear-behind-requires c κs =
+    let line = c .before .before .before in
+    counted tooLong (line .before .before .before .before .args .first .now) (line .write-too-long .ensures) .1 .1 .0
+
 returns : tie.Need-returns
 returns c =
-    let cleared = c .before .before in
-    let a = cleared .before .before .before .before .args in
-    none-held tooLong (a .first .now) (omega arith) (cleared .clear-behind .ensures)
-
-returns-2 : tie.Need-returns-2
-returns-2 c =
-    let cleared = c .before .before in
-    let put = cleared .before .before .before .before in
-    line-held _ _ (omega arith) (put .put-too-long .ensures) (cleared .clear-behind2 .ensures) (omega arith)
+    let second = c .before .before in
+    let first = second .before .before .before .before in
+    let line = first .before .before .before .before in
+    (line .write-too-long .ensures .0, (cleared tooLong (line .before .before .before .before .args .first .now) _ (line .write-too-long .ensures) (first .clear-behind .ensures), second .clear-behind2 .ensures))
 
 pub put-long-spec : {M : Type 1} → statement M
 put-long-spec =
     tie.close
     (tie.spec
     (λ c κs. search needs)
-    (λ c. search needs)
-    returns
-    (λ c κs. search needs)
+    clear-behind-requires
     (λ c κs. search needs)
     (λ c. search needs)
-    returns-2)
+    (λ c. search needs)
+    returns)

@@ -1,6 +1,7 @@
 -- What is printed is the answer's line, and behind it the refusal's where there is one.
 use borrow.Author.Needs.{needs}
 use Rattle.text.proofs.Fitted.{counted}
+use Rattle.report.specs.Report.{reported}
 use Rattle.report.proofs.Reports.{reported-accepted, reported-refused}
 use Rattle.report.proofs.report.Statement.{statement}
 use Rattle.report.proofs.report.Tie as tie
@@ -8,12 +9,16 @@ use Rattle.report.proofs.report.Tie as tie
 returns : tie.Need-returns
 returns c =
     let told = c .before .before .before .before in
-    rw (reported-accepted (told .before .before .before .args .outcome) (told .enum-told .given .1)) (counted _ _ (c .before .before .put-carried-out .ensures))
+    let a = told .before .before .before .args in
+    let e = reported-accepted (a .outcome) (told .enum-told .given .1) in
+    counted (reported (a .outcome)) (a .out .now) (rw e (c .before .before .put-carried-out .ensures))
 
 returns-2 : tie.Need-returns-2
 returns-2 c =
     let told = c .before .before .before .before .before in
-    rw (reported-refused (told .before .before .before .args .outcome) _ _ (told .answer .given .1)) (counted _ _ (c .before .before .put-refused .ensures))
+    let a = told .before .before .before .args in
+    let e = reported-refused (a .outcome) _ _ (told .answer .given .1) in
+    counted (reported (a .outcome)) (a .out .now) (rw e (c .before .before .put-refused .ensures))
 
 pub report-spec : {M : Type 1} → statement M
 report-spec =

@@ -16,13 +16,6 @@ returns c =
     let x = undo (roomOf (a .first .now) (a .second .now)) (a .block .now) in
     data-held x (u .0) (a .first .now) _ (a .second .now) (omega arith) (u .1 .1) (c .enum-told .given .1) (u .1 .0)
 
-clear-behind-requires : tie.Need-clear-behind-requires
-clear-behind-requires c κs =
-    let line = c .before .before .before in
-    let told = line .before .before .before in
-    let g = told .answer .given .0 in
-    counted (refusalLine (g .0) (g .1 .0)) (told .before .before .before .before .before .before .undo .last .1 .0) (line .write-refusal .ensures) .1 .1 .0
-
 returns-2 : tie.Need-returns-2
 returns-2 c =
     let cleared = c .before .before in
@@ -33,6 +26,13 @@ returns-2 c =
     let u = undone .undo .ensures in
     let x = undo (roomOf (a .first .now) (a .second .now)) (a .block .now) in
     refusal-held x (u .0) (a .first .now) (undone .undo .last .1 .0) (a .second .now) (omega arith) (u .1 .1) _ _ (told .answer .given .1) (line .write-refusal .ensures) (cleared .clear-behind .ensures)
+
+clear-behind-requires : tie.Need-clear-behind-requires
+clear-behind-requires c κs =
+    let line = c .before .before .before in
+    let told = line .before .before .before in
+    let g = told .answer .given .0 in
+    counted (refusalLine (g .0) (g .1 .0)) (told .before .before .before .before .before .before .undo .last .1 .0) (line .write-refusal .ensures) .1 .1 .0
 
 pub put-undone-spec : {M : Type 1} → statement M
 put-undone-spec =

@@ -13,8 +13,8 @@ use Rattle.answers.specs.Answer.{numberOf, when, acceptedOr, among, Among}
 use Rattle.answers.proofs.Answers.{refused-or}
 use Rattle.answers.proofs.Numbered.{when-refusing}
 use Rattle.text.specs.declared.Written.{Written}
-use Rattle.text.specs.Writing.{Room, fitted, written, textNumbers}
-use Rattle.text.proofs.Writing.{Wrote, wrote-none, wrote-counts, front, at-front, two-all}
+use Rattle.text.specs.Writing.{fitted, written, textNumbers}
+use Rattle.text.proofs.Writing.{Wrote, wrote-none, wrote-counts, front, at-front, room-both, two-all}
 
 module _ (room : ℕ) (xs : List ℕ) where
   pub fits : length xs ≤ room → fitted room xs ≡ record { answer = Accepted; text = xs }
@@ -68,5 +68,4 @@ pub both-put : (xs ys l : List ℕ) → length xs + length ys ≤ length l → {
     → Put (xs ++ ys) l l″ (record { answer = Accepted; length = n })
 both-put xs ys l h v w =
     let e = length-append xs ys in
-    let r : Room 0 (xs ++ ys) l = record { fits = omega (arith, e) } in
-    all-put (xs ++ ys) l (omega (arith, e)) (two-all xs ys r v w)
+    all-put (xs ++ ys) l (omega (arith, e)) (two-all xs ys (room-both xs ys l h) v w)

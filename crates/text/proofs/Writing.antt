@@ -18,6 +18,9 @@ Wrote at xs l l′ r = (r ≡ at + length xs) × (l′ ≡ putAt at xs l)
 pub room : {at : ℕ} {xs l : List ℕ} → at + length xs ≤ length l → Room at xs l
 room h = record { fits = h }
 
+pub room-both : (xs ys l : List ℕ) → length xs + length ys ≤ length l → Room 0 (xs ++ ys) l
+room-both xs ys l h = let e = length-append xs ys in record { fits = omega (arith, e) }
+
 -- nothing, a byte, bytes
 pub wrote-none : (at : ℕ) (l : List ℕ) → Wrote at [] l l at
 wrote-none at l = (omega arith, sym (put-nil at l))

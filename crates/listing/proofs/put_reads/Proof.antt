@@ -34,18 +34,18 @@ loop-holds c =
     let d = known .before in
     listing-start _ _ (bytes-of (d .args .file .now) (λ j. known .shared-slice-known .given j .fits)) (d .pre .0) (c .first-boundary .ensures) (coming-start (d .pre .1 .1 .1))
 
-put-view-line-requires : tie.Need-put-view-line-requires Inv-loop μ-loop
-put-view-line-requires c κs =
-    let read = c .before in
-    let turn = read .before in
-    coming-room (listing-next (turn .before .loop .inv) (left turn) (read .next-read .ensures .0)) _ _ refl
-
 loop-again : tie.Need-loop-again Inv-loop μ-loop
 loop-again c =
     let line = c .before .before .before in
     let read = line .before .before in
     let turn = read .before in
     listing-more (turn .before .loop .inv) (left turn) (read .next-read .ensures .0) _ (read .next-read .ensures .1) (λ rest k. coming-put k _ rest refl (line .put-view-line .ensures))
+
+put-view-line-requires : tie.Need-put-view-line-requires Inv-loop μ-loop
+put-view-line-requires c κs =
+    let read = c .before in
+    let turn = read .before in
+    coming-room (listing-next (turn .before .loop .inv) (left turn) (read .next-read .ensures .0)) _ _ refl
 
 pub put-reads-spec : {M : Type 1} → statement M
 put-reads-spec =

@@ -1,52 +1,52 @@
--- How long each line can be, which says what room a caller has to lend. Assumes nothing.
+-- How long each line is, and can be: what the code measures, and what room is enough for any. Assumes nothing.
+use mathlib.Core.Path.{_≡_}
 use mathlib.Core.List.{List}
-use Prim.Native.Nat.{ℕ, _+_, _≤_}
+use Prim.Native.Nat.{ℕ, _+_, _-_, _≤_}
 use native.Mathlib.Omega.{arith}
 use lib.ListN.{length, length-append}
+use Rattle.text.specs.Writing.{orDash}
+use Rattle.text.specs.Decimal.{decimal}
 use Rattle.text.proofs.Writing.{dash-short}
 use Rattle.text.proofs.Decimal.{decimal-short}
-use Rattle.lines.specs.Lines.{space, newline, flowsLabel, keyLabel, readsLabel, refusedLabel, atLabel, countLabel, numberLabel, placeLabel, lengthLabel, numberField, wordField, labelledNumber, labelledWord, headerLine, extent, readLine, refusalLine, answerLine}
+use Rattle.lines.specs.Lines.{numberField, wordField, labelledNumber, labelledWord, headerLine, extent, readLine, refusalLine, answerLine}
 
-number-short : (n end : ℕ) → length (numberField n end) ≤ 21
-unfolding numberField
-number-short n end = rw length-append (omega (arith, decimal-short n))
+module _ (flows : ℕ) (key : List ℕ) (reads : ℕ) where
+  pub header-line-length : length (headerLine flows key reads) ≡ length (decimal flows) + length (orDash key) + length (decimal reads) + 19
+  unfolding headerLine labelledNumber labelledWord numberField wordField
+  header-line-length = simp length-append (omega arith)
 
-word-short : (xs : List ℕ) (end : ℕ) → length (wordField xs end) ≤ 2 + length xs
-unfolding wordField
-word-short xs end = rw length-append (omega (arith, dash-short xs))
+  pub header-line-short : length (headerLine flows key reads) ≤ 60 + length key
+  header-line-short = rw header-line-length (omega (arith, decimal-short flows, dash-short key, decimal-short reads))
 
-labelled-number-short : (label : List ℕ) (n end : ℕ) → length (labelledNumber label n end) ≤ 21 + length label
-unfolding labelledNumber
-labelled-number-short label n end = rw length-append (omega (arith, number-short n end))
+module _ (position : ℕ) (name : List ℕ) (bases first last : ℕ) (insert : List ℕ) where
+  pub read-line-length : length (readLine position name bases first last insert)
+      ≡ length (decimal position) + length (orDash name) + (length (decimal bases) + length (decimal first) + length (decimal last)) + length (orDash insert) + 6
+  unfolding readLine extent numberField wordField
+  read-line-length = simp length-append (omega arith)
 
-labelled-word-short : (label xs : List ℕ) (end : ℕ) → length (labelledWord label xs end) ≤ 2 + length label + length xs
-unfolding labelledWord
-labelled-word-short label xs end = rw length-append (omega (arith, word-short xs end))
+  pub read-line-short : length (readLine position name bases first last insert) ≤ 88 + length name + length insert
+  read-line-short =
+      rw read-line-length
+      (omega (arith, decimal-short position, dash-short name, decimal-short bases, decimal-short first, decimal-short last, dash-short insert))
 
-pub header-line-short : (flows : ℕ) (key : List ℕ) (reads : ℕ) → length (headerLine flows key reads) ≤ 60 + length key
-unfolding headerLine
-header-line-short flows key reads =
-    simp length-append (omega (arith, labelled-number-short flowsLabel flows space, labelled-word-short keyLabel key space, labelled-number-short readsLabel reads newline))
+module _ (number place : ℕ) where
+  pub refusal-line-length : length (refusalLine number place) ≡ length (decimal number) + length (decimal place) + 13
+  unfolding refusalLine labelledNumber numberField
+  refusal-line-length = simp length-append (omega arith)
 
-extent-short : (bases first last : ℕ) → length (extent bases first last) ≤ 63
-unfolding extent
-extent-short bases first last = simp length-append (omega (arith, number-short bases space, number-short first space, number-short last space))
+  pub refusal-line-short : length (refusalLine number place) ≤ 64
+  refusal-line-short = rw refusal-line-length (omega (arith, decimal-short number, decimal-short place))
 
-pub read-line-short : (position : ℕ) (name : List ℕ) (bases first last : ℕ) (insert : List ℕ) → length (readLine position name bases first last insert) ≤ 88 + length name + length insert
-unfolding readLine
-read-line-short position name bases first last insert =
-    simp length-append (omega (arith, number-short position space, word-short name space, extent-short bases first last, word-short insert newline))
+module _ (count number place size : ℕ) where
+  pub answer-line-length : length (answerLine count number place size)
+      ≡ length (decimal count) + length (decimal number) + length (decimal place) + length (decimal size) + 30
+  unfolding answerLine labelledNumber numberField
+  answer-line-length = simp length-append (omega arith)
 
-pub refusal-line-short : (number place : ℕ) → length (refusalLine number place) ≤ 64
-unfolding refusalLine
-refusal-line-short number place =
-    simp length-append (omega (arith, labelled-number-short refusedLabel number space, labelled-number-short atLabel place newline))
+  pub answer-line-short : length (answerLine count number place size) ≤ 110
+  answer-line-short =
+      rw answer-line-length (omega (arith, decimal-short count, decimal-short number, decimal-short place, decimal-short size))
 
-pub answer-line-short : (count number place size : ℕ) → length (answerLine count number place size) ≤ 110
-unfolding answerLine
-answer-line-short count number place size =
-    let c = labelled-number-short countLabel count space in
-    let n = labelled-number-short numberLabel number space in
-    let p = labelled-number-short placeLabel place space in
-    let l = labelled-number-short lengthLabel size newline in
-    simp length-append (omega (arith, c, n, p, l))
+-- n bytes are taken from what two words leave of the room
+pub after-words : (room a b n l : ℕ) {left left′ r : ℕ} → left ≡ room - a → left′ ≡ left - b → r ≡ left′ - n → l ≡ a + b + n → r ≡ room - l
+after-words room a b n l e f g h = omega (arith, e, f, g, h)

@@ -11,7 +11,7 @@ use Rattle.sff_format.specs.FileTest.{fileTest}
 use Rattle.sff_format.specs.Parse.{parse}
 use Rattle.sff_format.specs.Places.{noRead}
 use Rattle.lines.specs.Lines.{refusalLine, tooLong}
-use Rattle.listing.specs.Listing.{lineOf, linesFrom, fileLines, printed}
+use Rattle.listing.specs.Listing.{lineOf, linesFrom, fileLines, listing, printed}
 use Rattle.listing.proofs.Whole.{listing-accepted, listing-refused}
 
 -- the lines of reads from a position on, one by one
@@ -38,13 +38,15 @@ line-at position (r ∷ rs) (suc i) h =
     line-at (suc position) rs i (omega arith) ∙ ap (λ (n : ℕ). lineOf n (getD rs i noRead)) e
 
 module _ (b : List ℕ) where
-  pub printed-accepted : length b ≤ 65536 → fileTest b ≡ Accepted → printed b ≡ fileLines (parse b)
+  pub printed-short : length b ≤ 65536 → printed b ≡ listing b
   unfolding printed
-  printed-accepted h e = rw (le-ltb 65536 (length b) h) (listing-accepted b e)
+  printed-short h = rw (le-ltb 65536 (length b) h)
+
+  pub printed-accepted : length b ≤ 65536 → fileTest b ≡ Accepted → printed b ≡ fileLines (parse b)
+  printed-accepted h e = printed-short h ∙ listing-accepted b e
 
   pub printed-refused : (n p : ℕ) → length b ≤ 65536 → fileTest b ≡ Refused n p → printed b ≡ refusalLine n p
-  unfolding printed
-  printed-refused n p h e = rw (le-ltb 65536 (length b) h) (listing-refused b n p e)
+  printed-refused n p h e = printed-short h ∙ listing-refused b n p e
 
   pub printed-long : 65536 < length b → printed b ≡ tooLong
   unfolding printed

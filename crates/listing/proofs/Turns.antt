@@ -1,7 +1,7 @@
--- The loop over an accepted file's reads that puts their lines. Assumes nothing.
+-- A loop over an accepted file's reads, which puts their lines or measures them. Assumes nothing.
 use Prim.Native.Nat.{ℕ, _+_, _≤_, _<_}
-use mathlib.Core.Path.{_≡_}
-use mathlib.Core.List.{List, _++_}
+use mathlib.Core.Path.{_≡_, refl}
+use mathlib.Core.List.{List, [], _++_}
 use native.Mathlib.Numerals.{add-one}
 use lib.ListN.{length, drop}
 use Rattle.octets.specs.Numbers.{Bytes}
@@ -19,9 +19,6 @@ use Rattle.sff_format.proofs.FileLaid.{head-ok}
 use Rattle.sff_format.proofs.Walks.{walk-start, walk-end, walk-accepted, walk-reads, walk-next}
 use Rattle.sff_format.proofs.Views.{name-viewed}
 use Rattle.sff_format.proofs.Inserted.{size-viewed, first-viewed, last-viewed, insert-viewed}
-use Rattle.text.specs.Writing.{Room}
-use Rattle.text.proofs.Writing.{Wrote}
-use Rattle.text.proofs.Coming.{Coming, coming-start, coming-room, coming-put, coming-done}
 use Rattle.listing.specs.Listing.{lineOf, linesFrom, viewLine}
 
 -- the line of a view is the line of the read that it is of
@@ -35,37 +32,35 @@ line-viewed characters b p i y e = rw (
   size-viewed characters b p y e,
 )
 
--- i reads are behind the boundary; the lines of the rest are to come
-pub record Listing (b l₀ : List ℕ) (at i : ℕ) (boundary : Boundary) (next : ℕ) (l : List ℕ) : Type 0 where
+-- i reads are behind the boundary, and P holds of the lines of the rest: that they are to be put, or to be measured
+pub record Listing (b : List ℕ) (i : ℕ) (boundary : Boundary) (P : List ℕ → Type 0) : Type 0 where
   pub bytes : Bytes b
   pub walk : Walk b i boundary
-  pub coming : Coming at (linesFrom 0 (parse b .reads)) l₀ next (linesFrom i (drop i (parse b .reads))) l
+  pub coming : P (linesFrom i (drop i (parse b .reads)))
 
-pub listing-start : (b l : List ℕ) (at : ℕ) {boundary : Boundary} → Bytes b → fileTest b ≡ Accepted → boundary ≡ firstBoundary b → Room at (linesFrom 0 (parse b .reads)) l
-    → Listing b l at 0 boundary at l
-listing-start b l at y e f r = record { bytes = y; walk = rw f (walk-start b e); coming = coming-start r }
+pub listing-start : (b : List ℕ) {boundary : Boundary} (P : List ℕ → Type 0) → Bytes b → fileTest b ≡ Accepted → boundary ≡ firstBoundary b → P (linesFrom 0 (parse b .reads))
+    → Listing b 0 boundary P
+listing-start b P y e f k = record { bytes = y; walk = rw f (walk-start b e); coming = k }
 
-module _ {b l₀ : List ℕ} {at i : ℕ} {boundary : Boundary} {next : ℕ} {l : List ℕ} (g : Listing b l₀ at i boundary next l) where
-  pub listing-done : readCount b ≤ i → Wrote at (linesFrom 0 (parse b .reads)) l₀ l next
+module _ {b : List ℕ} {i : ℕ} {boundary : Boundary} {P : List ℕ → Type 0} (g : Listing b i boundary P) where
+  pub listing-done : readCount b ≤ i → P []
   unfolding linesFrom
-  listing-done h = coming-done (g .coming) (rw (walk-end (g .walk) h))
+  listing-done h = rw (walk-end (g .walk) h) at (g .coming)
 
-  -- what the code has of the read: its start, and its view of F flow values
-  module _ (h : i < readCount b) {start : Boundary} (o : start ≡ readStart b boundary) (F : ℕ) (v : ReadView) (f : F ≡ flows b) (w : v ≡ viewAt F b (start .place)) where
+  -- the next read's view
+  module _ (h : i < readCount b) {v : ReadView} (w : v ≡ viewAt (flows b) b (readStart b boundary .place)) where
     line-is : linesFrom i (drop i (parse b .reads)) ≡ viewLine b i v ++ linesFrom (i + 1) (drop (i + 1) (parse b .reads))
     unfolding linesFrom
     line-is =
+        let p = readStart b boundary .place in
         let c : length (flowCharacters b) ≡ flows b = characters-length b (head-ok b (g .walk .accepted)) in
-        let one : viewLine b i (viewAt (flows b) b (start .place)) ≡ lineOf i (parseRead (flows b) b (start .place))
-        = rw c at (line-viewed (flowCharacters b) b (start .place) i (g .bytes) (walk-accepted (g .walk) o h)) in
-        rw (walk-reads (g .walk) o h, add-one, w, f, one)
+        let one : viewLine b i (viewAt (flows b) b p) ≡ lineOf i (parseRead (flows b) b p)
+        = rw c at (line-viewed (flowCharacters b) b p i (g .bytes) (walk-accepted (g .walk) refl h)) in
+        rw (walk-reads (g .walk) refl h, add-one, w, one)
 
-    pub listing-room : Room next (viewLine b i v) l
-    listing-room = coming-room (g .coming) (viewLine b i v) (linesFrom (i + 1) (drop (i + 1) (parse b .reads))) line-is
+    pub listing-next : P (viewLine b i v ++ linesFrom (i + 1) (drop (i + 1) (parse b .reads)))
+    listing-next = rw line-is at (g .coming)
 
-    pub listing-more : {after : Boundary} {next′ : ℕ} {l′ : List ℕ} → Wrote next (viewLine b i v) l l′ next′ → after ≡ nextBoundary b start → Listing b l₀ at (i + 1) after next′ l′
-    listing-more u e = record {
-      bytes = g .bytes;
-      walk = walk-next (g .walk) o h e;
-      coming = coming-put (g .coming) (viewLine b i v) (linesFrom (i + 1) (drop (i + 1) (parse b .reads))) line-is u;
-    }
+    pub listing-more : (Q : List ℕ → Type 0) {after : Boundary} → after ≡ nextBoundary b (readStart b boundary)
+        → ((rest : List ℕ) → P (viewLine b i v ++ rest) → Q rest) → Listing b (i + 1) after Q
+    listing-more Q e f = record { bytes = g .bytes; walk = walk-next (g .walk) refl h e; coming = f _ listing-next }

@@ -1,12 +1,12 @@
 -- A listing and its pieces, as the code puts them. Assumes nothing.
-use Prim.Native.Nat.{ℕ, _+_, _≤_, _<_}
-use mathlib.Core.Path.{_≡_, sym, _∙_}
+use Prim.Native.Nat.{ℕ, _+_, _-_, _≤_}
+use mathlib.Core.Path.{_≡_, refl, sym, ap, _∙_}
 use mathlib.Core.Bool.{Bool, true, false, not}
 use mathlib.Core.List.{List, _++_}
 use native.Mathlib.Omega.{arith}
-use lib.Dec.{ltb}
-use lib.ListN.{length}
-use borrow.Author.Tests.{ltb-false, lt-ltb, le-ltb, not-true, not-false}
+use lib.Dec.{ltb, eqb}
+use lib.ListN.{length, length-append}
+use borrow.Author.Tests.{ltb-true, ltb-false, le-ltb, eq-eqb, ne-eqb, not-true}
 use Rattle.octets.specs.Parts.{wholePart}
 use Rattle.octets.specs.Numbers.{Bytes}
 use Rattle.octets.proofs.Lists.{whole-in}
@@ -16,10 +16,8 @@ use Rattle.sff_format.specs.FileTest.{fileTest}
 use Rattle.sff_format.specs.Parse.{parse}
 use Rattle.sff_format.proofs.HeaderLaws.{fits-31, header-fits, header-sized, characters-length}
 use Rattle.sff_format.proofs.FileLaid.{head-ok, length-parsed}
-use Rattle.text.specs.Writing.{Room}
-use Rattle.text.proofs.Writing.{Wrote, room, Put, nothing-put, text-put}
-use Rattle.lines.specs.Lines.{headerLine, refusalLine, tooLong}
-use Rattle.listing.specs.Listing.{linesFrom, fileLines, listed, listing, enough, listingIn, printed, printedIn}
+use Rattle.lines.specs.Lines.{headerLine, refusalLine}
+use Rattle.listing.specs.Listing.{linesFrom, fileLines, listed, listing, enough}
 use Rattle.listing.proofs.Lengths.{listing-short}
 
 module _ (b : List ℕ) (e : fileTest b ≡ Accepted) where
@@ -45,42 +43,21 @@ pub listing-refused : (b : List ℕ) (n p : ℕ) → fileTest b ≡ Refused n p 
 unfolding listing listed
 listing-refused b n p e = rw e
 
--- r is what `has_room` answered of the buffer l
-module _ (b l : List ℕ) (r : Bool) (is : r ≡ not (ltb (length l) (enough (length b)))) where
-  pub none-listed : not r ≡ true → Put (listingIn (length l) b) l l 0
-  unfolding listingIn
-  none-listed h =
-      let t : ltb (length l) (enough (length b)) ≡ true = not-false _ (sym is ∙ not-true r h) in
-      rw t (nothing-put l)
+-- of so much room the header's line leaves `left`, and the reads' lines leave `last` of that: 0 exactly where both have more than the room
+pub measured : (room : ℕ) (xs ys : List ℕ) {left last : ℕ} → left ≡ room + 1 - length xs → last ≡ left - length ys → eqb last 0 ≡ ltb room (length (xs ++ ys))
+measured room xs ys {left} {last} e f = go (ltb room (length (xs ++ ys))) refl
+  where
+    go : (t : Bool) → ltb room (length (xs ++ ys)) ≡ t → eqb last 0 ≡ t
+    go true h = let l = ltb-true room _ h in let n = length-append xs ys in eq-eqb last 0 (omega (arith, n))
+    go false h = let l = ltb-false room _ h in let n = length-append xs ys in ne-eqb last 0 (λ z. omega (arith, n, z))
 
-  module _ (y : Bytes b) (h : not r ≡ false) where
-    less : ltb (length l) (enough (length b)) ≡ false
-    less = not-true _ (sym is ∙ not-false r h)
+pub both-fit : (room : ℕ) (xs ys : List ℕ) {zs : List ℕ} → zs ≡ xs ++ ys → ltb room (length zs) ≡ false → length xs + length ys ≤ room
+both-fit room xs ys {zs} e h = let l = ltb-false room (length zs) h in let n = ap length e ∙ length-append xs ys in omega (arith, n)
 
-    -- xs is the listing
-    module _ (xs : List ℕ) (e : listing b ≡ xs) where
-      pub room-for : Room 0 xs l
-      room-for =
-          let s = listing-short b y in
-          let t = ltb-false (length l) (enough (length b)) less in
-          rw (← e) (room (omega arith))
-
-      pub all-listed : {l′ : List ℕ} {n : ℕ} → Wrote 0 xs l l′ n → Put (listingIn (length l) b) l l′ n
-      unfolding listingIn
-      all-listed w = rw (less, e) (text-put w room-for)
-
-module _ (b l : List ℕ) where
-  pub none-printed : length l < 458816 → Put (printedIn (length l) b) l l 0
-  unfolding printedIn
-  none-printed h = rw (lt-ltb (length l) 458816 h) (nothing-put l)
-
-  module _ (h : 458816 ≤ length l) where
-    pub long-printed : 65536 < length b → {l′ : List ℕ} {n : ℕ} → Wrote 0 tooLong l l′ n → Put (printedIn (length l) b) l l′ n
-    unfolding printedIn printed
-    long-printed k w = rw (le-ltb (length l) 458816 h, lt-ltb 65536 (length b) k) (text-put w (room (omega arith)))
-
-    pub list-printed : length b ≤ 65536 → {l′ : List ℕ} {n : ℕ} → Put (listingIn (length l) b) l l′ n → Put (printedIn (length l) b) l l′ n
-    unfolding printedIn printed listingIn
-    list-printed k p =
-        let e : printedIn (length l) b ≡ listingIn (length l) b = rw (le-ltb (length l) 458816 h, le-ltb 65536 (length b) k, le-ltb (length l) (enough (length b)) (omega arith)) in
-        rw e p
+-- enough room for any file of that length
+pub enough-room : (b : List ℕ) (room : ℕ) → Bytes b → fileTest b ≡ Accepted → {r : Bool} → r ≡ not (ltb room (enough (length b))) → r ≡ true
+    → false ≡ ltb room (length (fileLines (parse b)))
+enough-room b room y e is h =
+    let l : length (fileLines (parse b)) ≤ enough (length b) = rw (listing-accepted b e) at (listing-short b y) in
+    let m = ltb-false room (enough (length b)) (not-true _ (sym is ∙ h)) in
+    sym (le-ltb room _ (omega arith))

@@ -40,17 +40,9 @@ listing b = listed (fileTest b) b
 abbrev pub enough : ℕ → ℕ
 enough n = 7 * n + 64
 
--- the same where a buffer of that length has `enough` room, and else nothing
-unfoldable pub listingIn : ℕ → List ℕ → List ℕ
-listingIn room b = cond (ltb room (enough (length b))) [] (listing b)
-
 -- "longer input than 65,536 bytes prints `too long`"
 unfoldable pub printed : List ℕ → List ℕ
 printed b = cond (ltb 65536 (length b)) tooLong (listing b)
-
--- the same where a buffer of that length has room for any of it, and else nothing
-unfoldable pub printedIn : ℕ → List ℕ → List ℕ
-printedIn room b = cond (ltb room (enough 65536)) [] (printed b)
 
 -- what the code puts for a read: its line, from its places in the file b
 unfoldable pub viewLine : List ℕ → ℕ → ReadView → List ℕ

@@ -1,6 +1,6 @@
 -- What `correct` prints of a list run, and whether it writes a new file. Assumes nothing: these are definitions.
 use Prim.Native.Nat.{ℕ}
-use mathlib.Core.Bool.{Bool, true, cond}
+use mathlib.Core.Bool.{Bool, true}
 use mathlib.Core.List.{List, [], _++_}
 use lib.Dec.{ltb}
 use Rattle.answers.specs.declared.Answer.{Answer}
@@ -21,14 +21,6 @@ refusal (Refused n p) = refusalLine n p
 -- the answer, then the refusal if there is one
 unfoldable pub reported : ListOutcome → List ℕ
 reported o = answered o ++ refusal (o .answer)
-
--- room for any text of this crate
-abbrev pub enough : ℕ
-enough = 256
-
--- such a text where a buffer of that length has the room, and else nothing
-unfoldable pub inRoom : ℕ → List ℕ → List ℕ
-inRoom room xs = cond (ltb room enough) [] xs
 
 -- a new file is written where the list, or some of its records, were carried out
 unfoldable pub isWritten : ListOutcome → Bool

@@ -4,54 +4,78 @@ ghost use mathlib.Core.List.{_++_};
 ghost use lib.ListN.{length, replicate};
 ghost use Rattle.octets.specs.Parts.{putAt};
 ghost use Rattle.io.specs.Counts.{Counts};
-ghost use Rattle.text.specs.Writing.{Room};
+ghost use Rattle.text.specs.Writing.{fitted, written};
 ghost use Rattle.lines.specs.Lines.{refusalLine, tooLong, answerLine};
-ghost use Rattle.report.specs.Report.{reported, inRoom, isWritten};
+ghost use Rattle.report.specs.Report.{reported, isWritten};
 use answers::Answer;
+use lines::inner::answer_length;
 use lines::inner::put_answer_line;
 use lines::inner::put_refusal_line;
-use lines::inner::put_too_long;
+use lines::inner::refusal_length;
+use lines::inner::write_too_long;
 use sff_correction::ListOutcome;
+use text::Written;
 
-// Puts the lines of a run that was refused.
-fn put_refused(out: &mut [u8], count: usize, number: usize, place: usize, size: usize) -> usize
-    requires { ⌜ Room 0 (answerLine count number place size ++ refusalLine number place) (now out) ⌝ }
-    ensures { λ r. ⌜ r ≡ length (answerLine count number place size ++ refusalLine number place) ⌝ }
-    ensures { λ _. ⌜ now (out .exit) ≡ putAt 0 (answerLine count number place size ++ refusalLine number place) (now (out .entry)) ⌝ }
+// Puts the line of a run that was carried out.
+fn put_carried_out(out: &mut [u8], count: usize, size: usize) -> Written
+    ensures { λ r. ⌜ r ≡ written (fitted (length (now (out .entry))) (answerLine count 0 0 size)) ⌝ }
+    ensures { λ _. ⌜ now (out .exit) ≡ putAt 0 (fitted (length (now (out .entry))) (answerLine count 0 0 size) .text) (now (out .entry)) ⌝ }
 {
-    let next = put_answer_line(out, 0, count, number, place, size);
-    put_refusal_line(out, next, number, place)
+    if out.len() < answer_length(count, 0, 0, size) {
+        return Written {
+            answer: Answer::Refused(26, 0),
+            length: 0,
+        };
+    }
+    let length = put_answer_line(out, 0, count, 0, 0, size);
+    Written {
+        answer: Answer::Accepted,
+        length,
+    }
 }
 
-// Puts what is printed of a list run at the front of `out`, and answers how many bytes it has. It takes 256 bytes of room, enough for any; with less nothing is put.
-pub fn report(outcome: ListOutcome, out: &mut [u8]) -> usize
-    ensures { λ r. ⌜ r ≡ length (inRoom (length (now (out .entry))) (reported outcome)) ⌝ }
-    ensures { λ _. ⌜ now (out .exit) ≡ putAt 0 (inRoom (length (now (out .entry))) (reported outcome)) (now (out .entry)) ⌝ }
-    ensures { λ r. ⌜ Counts r (now (out .exit)) ⌝ }
+// Puts the lines of a run that was refused.
+fn put_refused(out: &mut [u8], count: usize, number: usize, place: usize, size: usize) -> Written
+    ensures { λ r. ⌜ r ≡ written (fitted (length (now (out .entry))) (answerLine count number place size ++ refusalLine number place)) ⌝ }
+    ensures { λ _. ⌜ now (out .exit) ≡ putAt 0 (fitted (length (now (out .entry))) (answerLine count number place size ++ refusalLine number place) .text) (now (out .entry)) ⌝ }
 {
-    if out.len() < 256 {
-        return 0;
+    if out.len() < answer_length(count, number, place, size) + refusal_length(number, place) {
+        return Written {
+            answer: Answer::Refused(26, 0),
+            length: 0,
+        };
     }
+    let next = put_answer_line(out, 0, count, number, place, size);
+    let length = put_refusal_line(out, next, number, place);
+    Written {
+        answer: Answer::Accepted,
+        length,
+    }
+}
+
+// Puts what is printed of a list run at the front of `out`, and answers how many bytes it has; 26 exactly if `out` is shorter.
+pub fn report(outcome: ListOutcome, out: &mut [u8]) -> Written
+    ensures { λ r. ⌜ r ≡ written (fitted (length (now (out .entry))) (reported outcome)) ⌝ }
+    ensures { λ _. ⌜ now (out .exit) ≡ putAt 0 (fitted (length (now (out .entry))) (reported outcome) .text) (now (out .entry)) ⌝ }
+    ensures { λ r. ⌜ Counts (r .length) (now (out .exit)) ⌝ }
+{
     let answer = outcome.answer;
     let Answer::Refused(number, place) = answer else {
-        return put_answer_line(out, 0, outcome.count, 0, 0, outcome.length);
+        return put_carried_out(out, outcome.count, outcome.length);
     };
     put_refused(out, outcome.count, number as usize, place, outcome.length)
 }
 
-// Puts what is printed of a file or a list that is too long, with the same room.
-pub fn too_long(out: &mut [u8]) -> usize
-    ensures { λ r. ⌜ r ≡ length (inRoom (length (now (out .entry))) tooLong) ⌝ }
-    ensures { λ _. ⌜ now (out .exit) ≡ putAt 0 (inRoom (length (now (out .entry))) tooLong) (now (out .entry)) ⌝ }
-    ensures { λ r. ⌜ Counts r (now (out .exit)) ⌝ }
+// Puts what is printed of a file or a list that is too long; 26 likewise.
+pub fn too_long(out: &mut [u8]) -> Written
+    ensures { λ r. ⌜ r ≡ written (fitted (length (now (out .entry))) tooLong) ⌝ }
+    ensures { λ _. ⌜ now (out .exit) ≡ putAt 0 (fitted (length (now (out .entry))) tooLong .text) (now (out .entry)) ⌝ }
+    ensures { λ r. ⌜ Counts (r .length) (now (out .exit)) ⌝ }
 {
-    if out.len() < 256 {
-        return 0;
-    }
-    put_too_long(out, 0)
+    write_too_long(out)
 }
 
-// Room for what is printed.
+// Room for whatever is printed.
 pub fn report_room() -> [u8; 256]
     ensures { λ r. ⌜ r ≡ replicate 256 0 ⌝ }
     ensures { λ r. ⌜ 256 ≡ length r ⌝ }

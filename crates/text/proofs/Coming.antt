@@ -1,7 +1,8 @@
--- A text that a loop puts piece by piece: what is to come, put at the place that is reached, leaves what the whole leaves. Assumes nothing.
+-- A text that a loop puts piece by piece: what is to come, put at the place that is reached, leaves what the whole leaves; and one that a loop measures so.
+-- Assumes nothing.
 use mathlib.Core.Path.{_≡_, refl, sym, ap, _∙_}
 use mathlib.Core.List.{List, [], _++_}
-use Prim.Native.Nat.{ℕ, _+_, _≤_}
+use Prim.Native.Nat.{ℕ, _+_, _-_, _≤_}
 use native.Mathlib.Omega.{arith}
 use borrow.Author.Needs.{needs}
 use lib.ListN.{length, length-append}
@@ -44,3 +45,18 @@ module _ {at : ℕ} {whole l₀ : List ℕ} {p : ℕ} {rest l : List ℕ} (k : C
 
 -- what `search` needs for a loop, beside its own laws: that nothing is left at its end, and `coming-room` and `coming-put` at its next piece, which `search` does not find by itself
 pub ruleset coming = (coming-start, coming-done, needs)
+
+-- of the room for the text `whole`, what all but `rest` of it leaves is `left`
+pub record Left (room : ℕ) (whole : List ℕ) (left : ℕ) (rest : List ℕ) : Type 0 where
+  pub is : left - length rest ≡ room - length whole
+
+pub left-start : (room : ℕ) (whole : List ℕ) → Left room whole room whole
+left-start room whole = record { is = refl }
+
+module _ {room : ℕ} {whole : List ℕ} {left : ℕ} where
+  -- xs is the next piece
+  pub left-more : (xs rest : List ℕ) → Left room whole left (xs ++ rest) → {left′ : ℕ} → left′ ≡ left - length xs → Left room whole left′ rest
+  left-more xs rest k e = let f = length-append xs rest in record { is = omega (arith, k .is, e, f) }
+
+  pub left-done : Left room whole left [] → left ≡ room - length whole
+  left-done k = omega (arith, k .is)

@@ -1,5 +1,5 @@
 -- The laws of decimal digits: one more digit, how many there are, and the number that they spell. Assumes nothing.
-use mathlib.Core.Path.{_≡_, refl, ap, _∙_}
+use mathlib.Core.Path.{_≡_, refl, sym, ap, _∙_}
 use mathlib.Core.List.{List, [], _∷_, _++_}
 use mathlib.Core.Bool.{Bool, true, false, cond}
 use Prim.Native.Nat.{ℕ, zero, suc, _+_, _-_, _*_, _/_, _%_, _^_, _≤_, _<_}
@@ -72,6 +72,20 @@ digits-short (suc k) n = go (ltb n 10) refl (digits-short k (n / 10))
     go : (b : Bool) → ltb n 10 ≡ b → length (decimalOf k (n / 10)) ≤ k → length (decimalOf (suc k) n) ≤ suc k
     go true e h = rw e (omega arith)
     go false e h = rw (e, length-append) (omega (arith, h))
+
+-- what `count_digits` counts
+pub counted-none : (k n : ℕ) → k ≡ 0 → 0 ≡ length (decimalOf k n)
+unfolding decimalOf
+counted-none k n e = rw e
+
+pub counted-one : (k n : ℕ) → (k ≡ 0 → ⊥) → n < 10 → 1 ≡ length (decimalOf k n)
+counted-one k n h f = sym (one-length k n h f)
+
+pub counted-more : (k n : ℕ) → (k ≡ 0 → ⊥) → 10 ≤ n → {r : ℕ} → r ≡ length (decimalOf (k - 1) (n / 10)) → r + 1 ≡ length (decimalOf k n)
+counted-more k n h f e = rw e (sym (more-length k n h f))
+
+pub counted-short : (k n : ℕ) {r : ℕ} → r ≡ length (decimalOf k n) → r ≤ k
+counted-short k n e = rw e (digits-short k n)
 
 pub decimal-short : (n : ℕ) → length (decimal n) ≤ 20
 decimal-short n = digits-short 20 n

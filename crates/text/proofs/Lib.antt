@@ -1,4 +1,5 @@
--- `Writing`: pieces one after another, and the dash; `Decimal`: digits; `Coming`: a loop of pieces.
+-- `Writing`: pieces one after another; `Fitted`: a text that is measured; `Coming`: a loop that puts one; `Decimal`: digits.
 pub mod Writing
-pub mod Decimal
+pub mod Fitted
 pub mod Coming
+pub mod Decimal

@@ -18,6 +18,9 @@ Wrote at xs l l′ r = (r ≡ at + length xs) × (l′ ≡ putAt at xs l)
 pub room : {at : ℕ} {xs l : List ℕ} → at + length xs ≤ length l → Room at xs l
 room h = record { fits = h }
 
+pub room-both : (xs ys l : List ℕ) → length xs + length ys ≤ length l → Room 0 (xs ++ ys) l
+room-both xs ys l h = let e = length-append xs ys in record { fits = omega (arith, e) }
+
 -- nothing, a byte, bytes
 pub wrote-none : (at : ℕ) (l : List ℕ) → Wrote at [] l l at
 wrote-none at l = (omega arith, sym (put-nil at l))
@@ -52,16 +55,6 @@ front xs l w = (let n = w .0 in omega arith, w .1)
 
 pub at-front : (xs l : List ℕ) {l′ : List ℕ} {r : ℕ} → (r ≡ length xs) × (l′ ≡ putAt 0 xs l) → Wrote 0 xs l l′ r
 at-front xs l w = (let n = w .0 in omega arith, w .1)
-
--- what an entry point promises where the text xs is put at the front of l: the count, the buffer, and that the count is one of its bytes
-abbrev pub Put : List ℕ → List ℕ → List ℕ → ℕ → Type 0
-Put xs l l′ n = (n ≡ length xs) × ((l′ ≡ putAt 0 xs l) × ((n ≤ length l′) × (n ≡ length (take n l′))))
-
-pub nothing-put : (l : List ℕ) → Put [] l l 0
-nothing-put l = (refl, (wrote-none 0 l .1, (omega arith, refl)))
-
-pub text-put : {xs l l′ : List ℕ} {n : ℕ} → Wrote 0 xs l l′ n → Room 0 xs l → Put xs l l′ n
-text-put {xs} {l} w r = let f = front xs l w in (f .0, (f .1, wrote-counts w r))
 
 -- two pieces, three, four: the room of each, and the buffer after all of them
 module _ {at : ℕ} (a b : List ℕ) {l : List ℕ} (r : Room at (a ++ b) l) where
@@ -159,6 +152,13 @@ module _ (xs : List ℕ) (h : length xs ≡ 0 → ⊥) where
   word-wrote at l w = rw word w
 
 pub ruleset dashes = (dash-room, word-room, needs)
+
+-- what `word_length` answers
+pub dash-length : (xs : List ℕ) → length xs ≡ 0 → 1 ≡ length (orDash xs)
+dash-length xs e = rw (dash xs e)
+
+pub word-length : (xs : List ℕ) → (length xs ≡ 0 → ⊥) → length xs ≡ length (orDash xs)
+word-length xs h = rw (word xs h)
 
 pub dash-short : (xs : List ℕ) → length (orDash xs) ≤ 1 + length xs
 unfolding orDash

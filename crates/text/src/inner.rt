@@ -1,7 +1,7 @@
-// Each function asks for the room that it fills, which the crates above have measured, and answers the place after what it put.
+// A function that puts text asks for the room that it fills, which the crates above have measured, and answers the place after what it put. The others measure.
 ghost use mathlib.Core.Path.{_≡_};
 ghost use mathlib.Core.List.{[], _∷_};
-ghost use Prim.Native.Nat.{_+_, _<_};
+ghost use Prim.Native.Nat.{_+_, _-_, _≤_, _<_};
 ghost use lib.ListN.{length};
 ghost use Rattle.octets.specs.Parts.{putAt};
 ghost use Rattle.text.specs.Writing.{Room, orDash};
@@ -70,4 +70,46 @@ pub fn put_or_dash(out: &mut [u8], at: usize, source: &[u8]) -> usize
         return put_byte(out, at, b'-');
     }
     put_bytes(out, at, source)
+}
+
+// How many digits `put_digits` puts.
+fn count_digits(most: usize, n: usize) -> usize
+    ensures { λ r. ⌜ r ≡ length (decimalOf most n) ⌝ }
+{
+    if most == 0 {
+        return 0;
+    }
+    if n < 10 {
+        return 1;
+    }
+    count_digits(most - 1, n / 10) + 1
+}
+
+// How many bytes `put_number` puts.
+pub fn number_length(n: usize) -> usize
+    ensures { λ r. ⌜ r ≡ length (decimal n) ⌝ }
+    ensures { λ r. ⌜ r ≤ 20 ⌝ }
+{
+    count_digits(20, n)
+}
+
+// How many bytes `put_or_dash` puts.
+pub fn word_length(source: &[u8]) -> usize
+    ensures { λ r. ⌜ r ≡ length (orDash (now (source .entry))) ⌝ }
+{
+    let n = source.len();
+    if n == 0 {
+        return 1;
+    }
+    n
+}
+
+// What is left of so much room once n bytes are taken from it, 0 where they are more: no sum of lengths can wrap.
+pub fn room_after(room: usize, n: usize) -> usize
+    ensures { λ r. ⌜ r ≡ room - n ⌝ }
+{
+    if room < n {
+        return 0;
+    }
+    room - n
 }

@@ -1,12 +1,13 @@
 -- What `unfilter` prints of a block: its data, or else as the lister prints it. Assumes nothing: these are definitions.
 use Prim.Native.Nat.{ℕ}
 use mathlib.Core.Bool.{cond}
-use mathlib.Core.List.{List, []}
+use mathlib.Core.List.{List}
 use lib.ListN.{length}
 use lib.Dec.{ltb}
 use Rattle.answers.specs.declared.Answer.{Answer}
 use Rattle.answers.specs.declared.Answer.the-variants.{Accepted, Refused}
 use Rattle.filter_format.specs.Undo.{Result, roomOf, undo}
+use Rattle.text.specs.Writing.{Fitted, fitted}
 use Rattle.lines.specs.Lines.{refusalLine, tooLong}
 
 -- "A refusal is one line and nothing else"
@@ -22,6 +23,6 @@ textOf result = answered (result .answer) (result .bytes)
 unfoldable pub unfilterText : ℕ → List ℕ → List ℕ
 unfilterText room b = cond (ltb 65536 (length b)) tooLong (textOf (undo room b))
 
--- the same by way of two buffers, where the first has room for any line, and else nothing
-unfoldable pub printedBy : List ℕ → List ℕ → List ℕ → List ℕ
-printedBy first second b = cond (ltb (length first) 64) [] (unfilterText (roomOf first second) b)
+-- the same by way of two buffers, if the first holds it
+abbrev pub printedBy : List ℕ → List ℕ → List ℕ → Fitted
+printedBy first second b = fitted (length first) (unfilterText (roomOf first second) b)

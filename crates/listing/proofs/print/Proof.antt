@@ -1,18 +1,29 @@
-use Rattle.listing.proofs.Whole.{none-printed, long-printed, list-printed}
+-- What is printed is `too long`, or the listing.
 use borrow.Author.Needs.{needs}
+use Rattle.text.proofs.Fitted.{counted}
+use Rattle.listing.specs.Listing.{printed}
+use Rattle.listing.proofs.Printed.{printed-long, printed-short}
 use Rattle.listing.proofs.print.Statement.{statement}
 use Rattle.listing.proofs.print.Tie as tie
+
+returns : tie.Need-returns
+returns c =
+    let tested = c .before .before .before .before in
+    let a = tested .before .before .before .args in
+    counted (printed (a .input .now)) (a .out .now) (rw (printed-long (a .input .now) (tested .if1 .taken)) (c .before .before .write-too-long .ensures))
+
+returns-2 : tie.Need-returns-2
+returns-2 c =
+    let tested = c .before .before .before .before in
+    rw (printed-short (tested .before .before .before .args .input .now) (tested .if1 .left)) (c .before .before .list .ensures)
 
 pub print-spec : {M : Type 1} → statement M
 print-spec =
     tie.close
     (tie.spec
-    (λ c. none-printed _ _ (c .if1 .taken))
     (λ c κs. search needs)
     (λ c. search needs)
-    (λ c. long-printed _ _ (c .before .before .before .before .before .if1 .left) (c .before .before .before .before .if2 .taken) (c .before .before .put-too-long .ensures))
+    returns
     (λ c κs. search needs)
     (λ c. search needs)
-    (λ c.
-    let a = c .before .before .before .before .before .before .before .before .args in
-    list-printed (a .input .now) (a .out .now) (c .before .before .before .before .before .if1 .left) (c .before .before .before .before .if2 .left) (c .before .before .list .ensures)))
+    returns-2)

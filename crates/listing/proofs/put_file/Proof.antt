@@ -1,35 +1,65 @@
-use mathlib.Core.Path.{sym}
-use Rattle.sff_header.proofs.Fields.{reads-of, key-length-of, flows-of}
-use Rattle.text.proofs.Writing.{front, two-1, two-2, two-all}
-use Rattle.listing.proofs.Whole.{header-whole, lines-are}
+-- The lines of a file are its header's line and behind it those of its reads; they are put where they are found to fit.
+use Prim.Native.Nat.{_+_, _≤_}
+use mathlib.Core.Path.{_≡_, sym, _∙_}
+use mathlib.Core.List.{_++_}
 use borrow.Author.Needs.{needs}
+use borrow.Author.Tests.{ltb-true}
+use lib.ListN.{length}
+use Rattle.sff_format.specs.Parse.{parse}
+use Rattle.sff_header.proofs.Fields.{flows-of, key-length-of, reads-of}
+use Rattle.text.proofs.Writing.{room-both, two-1, two-2}
+use Rattle.text.proofs.Fitted.{none-put, both-put}
+use Rattle.lines.specs.Lines.{headerLine}
+use Rattle.listing.specs.Listing.{linesFrom, fileLines}
+use Rattle.listing.proofs.Whole.{header-whole, lines-are, both-fit}
 use Rattle.listing.proofs.put_file.Statement.{statement}
 use Rattle.listing.proofs.put_file.Tie as tie
+
+abbrev given : tie.After-stretch → tie.Start
+given c = c .before .before .before .before .before
+
+lines : (c : tie.After-stretch) → let b = given c .args .file .now in let h = c .before .before .header-fields .result in
+    fileLines (parse b) ≡ headerLine (h .flows) (c .stretch .result .now) (h .reads) ++ linesFrom 0 (parse b .reads)
+lines c =
+    let h = c .before .before .header-fields in
+    let e = h .ensures .0 in
+    lines-are _ (given c .pre) _ _ _ _ (sym (flows-of (h .result) _ e)) (sym (key-length-of (h .result) _ e)) (sym (reads-of (h .result) _ e)) (c .stretch .ensures)
+
+-- they fit
+fits : (c : tie.After-put-header-line-arg) → let s = c .before .before .before in let h = s .before .before .header-fields .result in let a = given s .args in
+    length (headerLine (h .flows) (s .stretch .result .now) (h .reads)) + length (linesFrom 0 (parse (a .file .now) .reads)) ≤ length (a .out .now)
+fits c =
+    let measured = c .before .before in
+    both-fit _ (headerLine _ _ _) (linesFrom 0 _) (lines (measured .before)) (sym (measured .lacks-room .ensures) ∙ c .before .if1 .left)
+
+returns : tie.Need-returns
+returns c = none-put _ _ (ltb-true _ _ (sym (c .before .lacks-room .ensures) ∙ c .if1 .taken))
+
+returns-2 : tie.Need-returns-2
+returns-2 c =
+    let reads = c .before .before in
+    let header = reads .before .before .before .before in
+    let s = header .before .before .before .before in
+    rw (lines s) (both-put _ _ _ (fits (header .before)) (header .put-header-line .ensures) (reads .put-reads .ensures))
+
+put-reads-requires : tie.Need-put-reads-requires
+put-reads-requires c κs =
+    let header = c .before .before .before in
+    let w = header .put-header-line .ensures in
+    let s = header .before .before .before .before in
+    let h = s .before .before .header-fields .ensures in
+    (given s .pre, (h .0, (h .1, two-2 _ _ (room-both (headerLine _ _ _) (linesFrom 0 _) _ (fits (header .before))) (w .0) (w .1))))
 
 pub put-file-spec : {M : Type 1} → statement M
 put-file-spec =
     tie.close
     (tie.spec
-    (λ c κs. header-whole _ (c .before .before .pre .0))
+    (λ c κs. header-whole _ (c .before .before .pre))
     (λ c. search needs)
     (λ c κs. search needs)
-    (λ c κs.
-    let d = c .before .before .before .before .before .before in
-    let h = c .before .before .before .header-fields in
-    let e = h .ensures .0 in
-    let l = lines-are (d .args .file .now) (d .pre .0) _ _ _ _ (sym (flows-of (h .result) _ e)) (sym (key-length-of (h .result) _ e)) (sym (reads-of (h .result) _ e)) (c .before .stretch .ensures) in
-    two-1 _ _ (rw l at (d .pre .1)))
-    (λ c κs.
-    let d = c .before .before .before .before .before .before .before .before .before .before in
-    let h = c .before .before .before .before .before .before .before .header-fields in
-    let e = h .ensures .0 in
-    let l = lines-are (d .args .file .now) (d .pre .0) _ _ _ _ (sym (flows-of (h .result) _ e)) (sym (key-length-of (h .result) _ e)) (sym (reads-of (h .result) _ e)) (c .before .before .before .before .before .stretch .ensures) in
-    let w = c .before .before .before .put-header-line .ensures in
-    (d .pre .0, (e, (h .ensures .1, two-2 _ _ (rw l at (d .pre .1)) (w .0) (w .1)))))
+    (λ c κs. let h = c .before .before .header-fields .ensures in (given c .pre, (h .0, (h .1, (lines c, search needs)))))
+    returns
+    (λ c κs. two-1 _ (linesFrom 0 _) (room-both (headerLine _ _ _) (linesFrom 0 _) _ (fits c)))
+    put-reads-requires
     (λ c. search needs)
-    (λ c.
-    let d = c .before .before .before .before .before .before .before .before .before .before .before .before .before in
-    let h = c .before .before .before .before .before .before .before .before .before .before .header-fields in
-    let e = h .ensures .0 in
-    let l = lines-are (d .args .file .now) (d .pre .0) _ _ _ _ (sym (flows-of (h .result) _ e)) (sym (key-length-of (h .result) _ e)) (sym (reads-of (h .result) _ e)) (c .before .before .before .before .before .before .before .before .stretch .ensures) in
-    rw l (front _ _ (two-all _ _ (rw l at (d .pre .1)) (c .before .before .before .before .before .before .put-header-line .ensures) (c .before .before .put-reads .ensures)))))
+    returns-2)

@@ -1,14 +1,29 @@
--- The answer's line at the front, and the refusal's line behind it.
+-- The answer's line at the front, and the refusal's line behind it, where both are found to fit.
+use native.Mathlib.Omega.{arith}
 use borrow.Author.Needs.{needs}
-use Rattle.text.proofs.Writing.{front, two, two-all}
+use lib.ListN.{length-append}
+use Rattle.text.proofs.Fitted.{none-put, both-put}
 use Rattle.report.proofs.put_refused.Statement.{statement}
 use Rattle.report.proofs.put_refused.Tie as tie
 
 returns : tie.Need-returns
-returns c =
+returns c = none-put _ _ (rw length-append (omega arith))
+
+returns-2 : tie.Need-returns-2
+returns-2 c =
     let refusal = c .before .before in
     let answer = refusal .before .before .before .before in
-    front _ _ (two-all _ _ (answer .before .before .before .pre) (answer .put-answer-line .ensures) (refusal .put-refusal-line .ensures))
+    both-put _ _ _ (omega arith) (answer .put-answer-line .ensures) (refusal .put-refusal-line .ensures)
 
 pub put-refused-spec : {M : Type 1} → statement M
-put-refused-spec = tie.close (tie.spec (λ c κs. search two) (λ c κs. search two) (λ c. search needs) returns)
+put-refused-spec =
+    tie.close
+    (tie.spec
+    (λ c κs. search needs)
+    (λ c κs. search needs)
+    (λ c. search needs)
+    returns
+    (λ c κs. search needs)
+    (λ c κs. search needs)
+    (λ c. search needs)
+    returns-2)

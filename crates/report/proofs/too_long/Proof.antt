@@ -1,14 +1,13 @@
-use mathlib.Core.Path.{refl}
 use borrow.Author.Needs.{needs}
-use Rattle.report.proofs.Reports.{none-put, all-put}
+use Rattle.text.proofs.Fitted.{counted}
+use Rattle.lines.specs.Lines.{tooLong}
 use Rattle.report.proofs.too_long.Statement.{statement}
 use Rattle.report.proofs.too_long.Tie as tie
 
+returns : tie.Need-returns
+returns c =
+    let line = c .before .before in
+    counted tooLong (line .before .before .before .args .out .now) (line .write-too-long .ensures)
+
 pub too-long-spec : {M : Type 1} → statement M
-too-long-spec =
-    tie.close
-    (tie.spec
-    (λ c. none-put _ _ (c .if1 .taken))
-    (λ c κs. search needs)
-    (λ c. search needs)
-    (λ c. all-put _ _ (c .before .before .before .before .if1 .left) refl (search needs) (c .before .before .put-too-long .ensures)))
+too-long-spec = tie.close (tie.spec (λ c κs. search needs) (λ c. search needs) returns)

@@ -1,29 +1,36 @@
-use mathlib.Core.Path.{refl}
-use Rattle.unfiltering.proofs.Texts.{none-printed, long-printed, text-printed}
+-- The text is `too long`, or what is printed of the block.
 use borrow.Author.Needs.{needs}
+use Rattle.filter_format.specs.Undo.{roomOf, undo}
+use Rattle.lines.specs.Lines.{tooLong}
+use Rattle.unfiltering.specs.Unfiltering.{textOf}
+use Rattle.unfiltering.proofs.Texts.{long-text, block-text, printed}
 use Rattle.unfiltering.proofs.print.Statement.{statement}
 use Rattle.unfiltering.proofs.print.Tie as tie
+
+returns : tie.Need-returns
+returns c =
+    let put = c .before .before .before .before in
+    let tested = put .before .before .before in
+    let a = tested .before .before .before .before .args in
+    rw (long-text _ _ (tested .if1 .taken)) (printed tooLong (a .first .now) _ (a .second .now) _ (put .put-long .ensures))
+
+returns-2 : tie.Need-returns-2
+returns-2 c =
+    let put = c .before .before .before .before in
+    let tested = put .before .before .before in
+    let a = tested .before .before .before .before .args in
+    let text = textOf (undo (roomOf (a .first .now) (a .second .now)) (a .input .now)) in
+    rw (block-text _ _ (tested .if1 .left)) (printed text (a .first .now) _ (a .second .now) _ (put .put-undone .ensures))
 
 pub print-spec : {M : Type 1} → statement M
 print-spec =
     tie.close
     (tie.spec
     (λ c κs. search needs)
+    (λ c. search needs)
+    (λ c. search needs)
+    returns
     (λ c κs. search needs)
     (λ c. search needs)
     (λ c. search needs)
-    (λ c.
-    let a = c .before .before .before .before .before .before .before .before .before .before .before .before .args in
-    none-printed (a .first .now) (a .second .now) (a .input .now) (c .before .before .before .before .before .before .before .before .if1 .taken) (refl, (c .before .before .before .before .before .before .clear-behind .ensures, c .before .before .clear-behind2 .ensures)))
-    (λ c κs. search needs)
-    (λ c. search needs)
-    (λ c. search needs)
-    (λ c.
-    let a = c .before .before .before .before .before .before .before .before .before .before .before .before .args in
-    long-printed (a .first .now) (a .second .now) (a .input .now) (c .before .before .before .before .before .before .before .before .if1 .left) (c .before .before .before .before .before .before .before .if2 .taken) (c .before .before .before .before .put-long .ensures))
-    (λ c κs. search needs)
-    (λ c. search needs)
-    (λ c. search needs)
-    (λ c.
-    let a = c .before .before .before .before .before .before .before .before .before .before .before .before .args in
-    text-printed (a .first .now) (a .second .now) (a .input .now) (c .before .before .before .before .before .before .before .before .if1 .left) (c .before .before .before .before .before .before .before .if2 .left) (c .before .before .before .before .put-undone .ensures)))
+    returns-2)

@@ -1,22 +1,30 @@
-use native.Mathlib.Omega.{arith}
-use Rattle.lines.specs.Lines.{tooLong}
-use Rattle.unfiltering.proofs.Texts.{line-held}
+-- The line is put if it fits, and the rest of both buffers is cleared.
 use borrow.Author.Needs.{needs}
+use Rattle.text.proofs.Fitted.{counted}
+use Rattle.lines.specs.Lines.{tooLong}
+use Rattle.unfiltering.proofs.Texts.{cleared}
 use Rattle.unfiltering.proofs.put_long.Statement.{statement}
 use Rattle.unfiltering.proofs.put_long.Tie as tie
+
+returns : tie.Need-returns
+returns c =
+    let second = c .before .before in
+    let first = second .before .before .before .before in
+    let line = first .before .before .before .before in
+    (line .write-too-long .ensures .0, (cleared tooLong (line .before .before .before .before .args .first .now) _ (line .write-too-long .ensures) (first .clear-behind .ensures), second .clear-behind2 .ensures))
+
+clear-behind-requires : tie.Need-clear-behind-requires
+clear-behind-requires c κs =
+    let line = c .before .before .before in
+    counted tooLong (line .before .before .before .before .args .first .now) (line .write-too-long .ensures) .1 .1 .0
 
 pub put-long-spec : {M : Type 1} → statement M
 put-long-spec =
     tie.close
     (tie.spec
     (λ c κs. search needs)
-    (λ c κs. search needs)
+    clear-behind-requires
     (λ c κs. search needs)
     (λ c. search needs)
     (λ c. search needs)
-    (λ c.
-    let a = c .before .before .before .before .before .before .before .before .before .before .before .before .before .before .args in
-    let w = c .before .before .before .before .before .before .before .before .before .before .put-too-long in
-    let z = c .before .before .before .before .before .before .clear-behind in
-    let o = line-held tooLong (a .first .now) (w .last .0) (z .last .0) (w .result) (omega arith) (w .ensures) (z .ensures) in
-    (o .0, (o .1, c .before .before .clear-behind2 .ensures))))
+    returns)

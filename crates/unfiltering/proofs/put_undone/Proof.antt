@@ -1,10 +1,38 @@
+-- The text is the data, which undoing leaves in the first buffer, or the line of the refusal, if it fits.
 use native.Mathlib.Omega.{arith}
-use Rattle.filter_format.specs.Undo.{Result, roomOf, undo}
-use Rattle.text.proofs.Writing.{wrote-counts}
-use Rattle.unfiltering.proofs.Texts.{line-room, data-held, refusal-held}
 use borrow.Author.Needs.{needs}
+use Rattle.filter_format.specs.Undo.{roomOf, undo}
+use Rattle.text.proofs.Fitted.{counted}
+use Rattle.lines.specs.Lines.{refusalLine}
+use Rattle.unfiltering.proofs.Texts.{data-held, refusal-held}
 use Rattle.unfiltering.proofs.put_undone.Statement.{statement}
 use Rattle.unfiltering.proofs.put_undone.Tie as tie
+
+returns : tie.Need-returns
+returns c =
+    let undone = c .before .before .before .before .before .before in
+    let a = undone .before .before .before .before .before .before .args in
+    let u = undone .undo .ensures in
+    let x = undo (roomOf (a .first .now) (a .second .now)) (a .block .now) in
+    data-held x (u .0) (a .first .now) _ (a .second .now) (omega arith) (u .1 .1) (c .enum-told .given .1) (u .1 .0)
+
+returns-2 : tie.Need-returns-2
+returns-2 c =
+    let cleared = c .before .before in
+    let line = cleared .before .before .before .before in
+    let told = line .before .before .before in
+    let undone = told .before .before .before .before .before .before in
+    let a = undone .before .before .before .before .before .before .args in
+    let u = undone .undo .ensures in
+    let x = undo (roomOf (a .first .now) (a .second .now)) (a .block .now) in
+    refusal-held x (u .0) (a .first .now) (undone .undo .last .1 .0) (a .second .now) (omega arith) (u .1 .1) _ _ (told .answer .given .1) (line .write-refusal .ensures) (cleared .clear-behind .ensures)
+
+clear-behind-requires : tie.Need-clear-behind-requires
+clear-behind-requires c κs =
+    let line = c .before .before .before in
+    let told = line .before .before .before in
+    let g = told .answer .given .0 in
+    counted (refusalLine (g .0) (g .1 .0)) (told .before .before .before .before .before .before .undo .last .1 .0) (line .write-refusal .ensures) .1 .1 .0
 
 pub put-undone-spec : {M : Type 1} → statement M
 put-undone-spec =
@@ -15,19 +43,10 @@ put-undone-spec =
     (λ c. search needs)
     (λ c. search needs)
     (λ c. search needs)
-    (λ c.
-    let a = c .before .before .before .before .before .before .before .before .before .before .before .before .args in
-    let u = c .before .before .before .before .before .before .undo in
-    let x : Result = undo (roomOf (a .first .now) (a .second .now)) (a .block .now) in
-    data-held x (a .first .now) (a .second .now) (u .ensures .0) (u .ensures .1 .1) (u .ensures .1 .0) (c .enum-told .given .1))
+    returns
     (λ c. search needs)
-    (λ c κs. line-room _ _ (c .before .before .before .before .before .before .before .before .undo .last .1 .0) (omega arith))
-    (λ c κs. wrote-counts (c .before .before .before .put-refusal-line .ensures) (line-room _ _ (c .before .before .before .before .before .before .before .before .before .before .before .before .undo .last .1 .0) (omega arith)) .0)
+    (λ c κs. search needs)
+    clear-behind-requires
     (λ c. search needs)
     (λ c. search needs)
-    (λ c.
-    let a = c .before .before .before .before .before .before .before .before .before .before .before .before .before .before .before .before .before .before .before .before .before .args in
-    let u = c .before .before .before .before .before .before .before .before .before .before .before .before .before .before .before .undo in
-    let x : Result = undo (roomOf (a .first .now) (a .second .now)) (a .block .now) in
-    let g = c .before .before .before .before .before .before .before .before .before .answer .given in
-    refusal-held x (a .first .now) (a .second .now) (u .ensures .0) (u .ensures .1 .1) _ (g .0 .0) (g .0 .1 .0) (g .1) (c .before .before .before .before .before .before .before .before .before .before .before .before .before .before .before .before .before .before .before .before .before .pre) (omega arith) (c .before .before .before .before .before .before .put-refusal-line .ensures) (c .before .before .clear-behind .ensures)))
+    returns-2)

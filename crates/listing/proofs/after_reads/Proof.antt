@@ -1,0 +1,56 @@
+-- At each turn the lines of the reads passed are measured, and those of the reads left are to come.
+use Prim.Native.Nat.{_-_, _<_}
+use native.Mathlib.Omega.{arith}
+use borrow.Author.Needs.{needs}
+use Rattle.octets.proofs.AllBytes.{bytes-of}
+use Rattle.sff_format.specs.HeaderTest.{readCount}
+use Rattle.sff_format.specs.Parse.{parse}
+use Rattle.sff_header.proofs.Fields.{reads-of}
+use Rattle.text.proofs.Coming.{Left, left-start, left-more, left-done}
+use Rattle.listing.specs.Listing.{linesFrom, viewLine}
+use Rattle.listing.proofs.Turns.{Listing, listing-start, listing-done, listing-more}
+use Rattle.listing.proofs.after_reads.Statement.{statement}
+use Rattle.listing.proofs.after_reads.Tie as tie
+
+abbrev Inv-loop : tie.InvT-loop
+Inv-loop file header room reads left₀ position₀ boundary₀ left position boundary =
+    Listing file position boundary (λ rest. Left room (linesFrom 0 (parse file .reads)) left rest)
+
+abbrev μ-loop : tie.MeasureT-loop
+μ-loop file header room reads left₀ position₀ boundary₀ left position boundary =
+    reads - position
+
+abbrev given : tie.At-loop Inv-loop μ-loop → tie.Start Inv-loop μ-loop
+given l = l .before .before .before
+
+-- a read is left
+left : (c : tie.In-loop Inv-loop μ-loop) → c .before .loop .position < readCount (given (c .before) .args .file .now)
+left c = let d = given (c .before) in omega (arith, c .loop-test .taken, reads-of (d .args .header) _ (d .pre .1 .0))
+
+loop-holds : tie.Need-loop-holds Inv-loop μ-loop
+loop-holds c =
+    let known = c .before in
+    let d = known .before in
+    listing-start _ _ (bytes-of (d .args .file .now) (λ j. known .shared-slice-known .given j .fits)) (d .pre .0) (c .first-boundary .ensures) (left-start _ _)
+
+loop-again : tie.Need-loop-again Inv-loop μ-loop
+loop-again c =
+    let line = c .before in
+    let read = line .before in
+    let turn = read .before in
+    listing-more (turn .before .loop .inv) (left turn) (read .next-read .ensures .0) _ (read .next-read .ensures .1) (λ rest k. left-more (viewLine _ _ (read .next-read .result .view)) rest k (line .after-view-line .ensures))
+
+pub after-reads-spec : {M : Type 1} → statement M
+after-reads-spec =
+    tie.close
+    (tie.spec
+    Inv-loop
+    μ-loop
+    (λ c κs. search needs)
+    loop-holds
+    (λ c κs. let l = c .before in let d = given l in (l .loop .inv .walk, (left c, (d .pre .1 .0, d .pre .1 .1))))
+    (λ c κs. search needs)
+    (λ c. search needs)
+    (λ c. search needs)
+    loop-again
+    (λ c. let d = given (c .before) in left-done (listing-done (c .before .loop .inv) (omega (arith, c .loop-test .left, reads-of (d .args .header) _ (d .pre .1 .0))))))

@@ -1,0 +1,30 @@
+-- With room for the listing of any file of that length these lines fit; else they are measured, the header's and the reads'.
+use borrow.Author.Needs.{needs}
+use Rattle.octets.proofs.AllBytes.{bytes-of}
+use Rattle.lines.specs.Lines.{headerLine}
+use Rattle.listing.specs.Listing.{linesFrom}
+use Rattle.listing.proofs.Whole.{enough-room, measured}
+use Rattle.listing.proofs.lacks_room.Statement.{statement}
+use Rattle.listing.proofs.lacks_room.Tie as tie
+
+returns : tie.Need-returns
+returns c =
+    let known = c .before .before .before in
+    let d = known .before in
+    enough-room (d .args .file .now) _ (bytes-of (d .args .file .now) (λ j. known .shared-slice-known .given j .fits)) (d .pre .0) (c .before .has-room .ensures) (c .if1 .taken)
+
+returns-2 : tie.Need-returns-2
+returns-2 c =
+    let d = c .before .before .before .before .before .before in
+    rw (d .pre .1 .1 .1 .0) (measured _ (headerLine _ _ _) (linesFrom 0 _) (c .before .after-header-line .ensures) (c .after-reads .ensures))
+
+pub lacks-room-spec : {M : Type 1} → statement M
+lacks-room-spec =
+    tie.close
+    (tie.spec
+    (λ c κs. search needs)
+    returns
+    (λ c. search needs)
+    (λ c κs. search needs)
+    (λ c κs. let d = c .before .before .before .before .before in (d .pre .0, (d .pre .1 .0, d .pre .1 .1 .0)))
+    returns-2)

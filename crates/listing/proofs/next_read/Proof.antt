@@ -1,0 +1,24 @@
+-- The walk says that a read begins past the index.
+use mathlib.Core.Path.{refl, sym}
+use borrow.Author.Needs.{needs}
+use Rattle.sff_format.proofs.Walks.{walk-begins}
+use Rattle.sff_header.proofs.Fields.{flows-of}
+use Rattle.listing.proofs.next_read.Statement.{statement}
+use Rattle.listing.proofs.next_read.Tie as tie
+
+returns : tie.Need-returns
+returns c =
+    let view = c .before in
+    let start = view .before in
+    let d = start .before .before in
+    let f = flows-of (d .args .header) _ (d .pre .1 .1 .0) in
+    (rw (view .read-view .ensures, start .past-index .ensures, f), rw (c .next-boundary .ensures, start .past-index .ensures))
+
+pub next-read-spec : {M : Type 1} → statement M
+next-read-spec =
+    tie.close
+    (tie.spec
+    (λ c κs. let d = c .before in (d .pre .1 .1 .0, (d .pre .1 .1 .1, d .pre .0 .inside)))
+    (λ c κs. let d = c .before .before in (walk-begins (d .pre .0) (c .past-index .ensures) (d .pre .1 .0), search needs))
+    (λ c κs. let d = c .before .before .before in (d .pre .1 .1 .0, (d .pre .1 .1 .1, walk-begins (d .pre .0) (c .before .past-index .ensures) (d .pre .1 .0))))
+    returns)

@@ -1,0 +1,7 @@
+use borrow.Author.Needs.{needs}
+use Rattle.text.proofs.Decimal.{counted-short}
+use Rattle.text.proofs.inner.number_length.Statement.{statement}
+use Rattle.text.proofs.inner.number_length.Tie as tie
+
+pub number-length-spec : {M : Type 1} → statement M
+number-length-spec = tie.close (tie.spec (λ c κs. search needs) (λ c. (search needs, counted-short 20 _ (c .count-digits .ensures))))

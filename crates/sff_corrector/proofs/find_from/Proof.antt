@@ -8,7 +8,13 @@ find-on-requires c κs =
     let d = c .before .before .before .before .pre in
     (d .0, (d .1 .0, rw (c .before .from .given .1) at (d .1 .1)))
 
+returns : tie.Need-returns
+returns c = c .find .ensures .0
+
+returns-2 : tie.Need-returns-2
+returns-2 c = c .find-on .ensures .0
+
 pub find-from-spec : {M : Type 1} → statement M
 find-from-spec =
     tie.close
-    (tie.spec (λ c. search needs) (λ c κs. search needs) (λ c. search needs) find-on-requires (λ c. search needs) (λ c. search needs))
+    (tie.spec (λ c. search needs) (λ c κs. search needs) (λ c. search needs) find-on-requires returns returns-2)

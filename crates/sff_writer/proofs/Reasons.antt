@@ -123,6 +123,17 @@ module _ (room len : ℕ) (r : Read) (characters : List ℕ) {d : Answer} (e : d
   pub read-within : len ≤ room → z ≤ room - len → ltb room (len + length (layoutRead r)) ≡ false
   read-within k h = rw (← given-size characters r e t f) (le-ltb room (len + z) (omega arith))
 
+-- what a file and a read have that are not refused
+pub record Fits (buffer : List ℕ) (len : ℕ) (r : Read) : Type 0 where
+  pub count : 24 ≤ len
+  pub stated : len ≤ length buffer
+  pub whole : len + (up8 (16 + length (r .name)) + up8 (2 * length (r .values) + 3 * length (r .bases))) ≤ length buffer
+  pub name : length (r .name) ≤ 65512
+  pub values : length (r .values) < 65536
+  pub increments : length (r .increments) ≡ length (r .bases)
+  pub qualities : length (r .qualities) ≡ length (r .bases)
+  pub bases : length (r .bases) < 4294967296
+
 -- what an append's test tells the one who writes, and what is left then
 module _ (buffer : List ℕ) (len : ℕ) (r : Read) {a : Answer} (e : a ≡ appendTest buffer len r) where
   pub append-refused : {n p : ℕ} → a ≡ Refused n p → (record { answer = a; length = len } ≡ appendOutcome buffer len r) × (buffer ≡ appendBuffer buffer len r)
@@ -136,36 +147,33 @@ module _ (buffer : List ℕ) (len : ℕ) (r : Read) {a : Answer} (e : a ≡ appe
     sized : up8 (16 + length (r .name)) + up8 (2 * length (r .values) + 3 * length (r .bases)) ≡ length (layoutRead r)
     sized = given-size (flowCharacters (take len buffer)) r refl (c .given) refl
 
-    -- the file has the count, and there is room for the read
-    pub append-file-fits : (24 ≤ len) × (len ≤ length buffer)
-    append-file-fits =
+    file-fits : (31 ≤ len) × (len ≤ length buffer)
+    file-fits =
         let h = fits-31 (take len buffer) (head-ok (take len buffer) (c .accepted)) in
         let l = length-take-le len buffer (c .stated) in
         (omega (arith, h, l), c .stated)
 
-    pub append-read-fits : len + (up8 (16 + length (r .name)) + up8 (2 * length (r .values) + 3 * length (r .bases))) ≤ length buffer
-    append-read-fits = rw sized (c .room)
-
-    pub append-end : {z : ℕ} → z ≡ up8 (16 + length (r .name)) + up8 (2 * length (r .values) + 3 * length (r .bases)) → len + z ≤ length buffer
-    append-end f = rw (f, sized) (c .room)
-
-    pub append-name-fits : length (r .name) ≤ 65512
-    append-name-fits = given-name (flowCharacters (take len buffer)) r refl (c .given)
-
-    pub append-counts : (length (r .increments) ≡ length (r .bases)) × (length (r .qualities) ≡ length (r .bases)) × (length (r .bases) < 4294967296)
-    append-counts = let k = given-counts (flowCharacters (take len buffer)) r refl (c .given) in (k .1, k .2, k .3)
-
-    pub append-values : Bytes buffer → length (r .values) < 65536
-    append-values y =
+    pub append-fits : Bytes buffer → Fits buffer len r
+    append-fits y =
+        let h = file-fits in
+        let l = length-take-le len buffer (c .stated) in
         let k = given-counts (flowCharacters (take len buffer)) r refl (c .given) in
-        let h = fits-31 (take len buffer) (head-ok (take len buffer) (c .accepted)) in
-        let l = length-take (flows (take len buffer)) (drop 31 (take len buffer)) in
+        let m = length-take (flows (take len buffer)) (drop 31 (take len buffer)) in
         let f : flows (take len buffer) < 65536 = number-small 2 28 (take len buffer) (bytes-take len buffer y) (omega arith) in
-        omega (arith, k .0, l, f)
+        record {
+          count = omega arith;
+          stated = c .stated;
+          whole = rw sized (c .room);
+          name = given-name (flowCharacters (take len buffer)) r refl (c .given);
+          values = omega (arith, k .0, m, f);
+          increments = k .1;
+          qualities = k .2;
+          bases = k .3;
+        }
 
     counted : {n : ℕ} → n ≡ number 4 20 buffer → readCount (take len buffer) ≡ n
     unfolding number
-    counted f = let h = append-file-fits in rw (part-take 20 4 len buffer (omega arith) (omega arith)) (sym f)
+    counted f = let h = file-fits in rw (part-take 20 4 len buffer (omega arith) (omega arith)) (sym f)
 
     pub append-outcome : {z : ℕ} → z ≡ up8 (16 + length (r .name)) + up8 (2 * length (r .values) + 3 * length (r .bases)) → record { answer = a; length = len + z } ≡ appendOutcome buffer len r
     unfolding appendOutcome acceptedOr

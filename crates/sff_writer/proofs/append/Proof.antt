@@ -1,13 +1,31 @@
 -- An append that is not refused has room for the count and the read; the bytes and the length are what the calls gave.
-use Prim.Native.Nat.{_+_, _≤_, _<_}
+use Prim.Native.Nat.{_<_}
 use lib.ListN.{length}
-use native.Mathlib.Omega.{arith}
 use Rattle.octets.proofs.AllBytes.{bytes-of}
 use Rattle.sff_format.specs.Writing.{readOf}
-use Rattle.sff_writer.proofs.Reasons.{append-refused, append-file-fits, append-read-fits, append-end, append-name-fits, append-counts, append-values, append-outcome, append-buffer}
+use Rattle.sff_writer.proofs.Reasons.{Fits, append-refused, append-fits, append-outcome, append-buffer}
 use borrow.Author.Needs.{needs}
 use Rattle.sff_writer.proofs.append.Statement.{statement}
 use Rattle.sff_writer.proofs.append.Tie as tie
+
+-- the places: the buffer's bytes known, the test has accepted, the same from where the read is put, and from where the count is
+abbrev entered : tie.After-append-test → tie.After-slice-known
+entered c = c .before .before .before .before .before .before .before
+
+abbrev start : tie.After-enum-told → tie.Start
+start c = entered (c .before .before) .before
+
+abbrev accepted : tie.After-put-read → tie.After-enum-told
+accepted c = c .before .before .before .before
+
+abbrev counted : tie.After-slice-known3 → tie.After-enum-told
+counted c = accepted (c .before .before .before .before .before .before)
+
+fits : (c : tie.After-enum-told) → let a = start c .args in
+    Fits (a .buffer .now) (a .file-length) (readOf (a .name .now) (a .clips) (a .values .now) (a .increments .now) (a .bases .now) (a .qualities .now))
+fits c =
+    let bytes = bytes-of (start c .args .buffer .now) (λ j. entered (c .before .before) .slice-known .given j .fits) in
+    append-fits _ _ _ (search) (c .enum-told .given .1) bytes
 
 pub append-spec : {M : Type 1} → statement M
 append-spec =
@@ -18,40 +36,14 @@ append-spec =
     (λ c. search needs)
     (λ c. search needs)
     (λ c. append-refused _ _ _ (search) (c .enum-told2 .given .1))
-    (λ c κs.
-    let a = c .before .before .before .before .before .before .before .before .before .before .before .args in
-    let b = a .buffer .now in
-    let n = a .file-length in
-    let r = readOf (a .name .now) (a .clips) (a .values .now) (a .increments .now) (a .bases .now) (a .qualities .now) in
-    let f = append-file-fits b n r (c .before .before .before .append-test .ensures) (c .before .enum-told .given .1) in omega (arith, f))
-    (λ c κs.
-    let a = c .before .before .before .before .before .before .before .before .before .before .before .before .before .args in
-    let b = a .buffer .now in
-    let n = a .file-length in
-    let r = readOf (a .name .now) (a .clips) (a .values .now) (a .increments .now) (a .bases .now) (a .qualities .now) in
-    let k = append-counts b n r (c .before .before .before .before .before .append-test .ensures) (c .before .before .before .enum-told .given .1) in
-    (append-read-fits b n r (c .before .before .before .before .before .append-test .ensures) (c .before .before .before .enum-told .given .1), (append-name-fits b n r (c .before .before .before .before .before .append-test .ensures) (c .before .before .before .enum-told .given .1), (k .0, k .1))))
+    (λ c κs. let f = fits (c .before) in search needs)
+    (λ c κs. let f = fits (c .before .before .before) in search needs)
     (λ c. search needs)
-    (λ c κs.
-    let a = c .before .before .before .before .before .before .before .before .before .before .before .before .before .before .before .before .before .args in
-    let b = a .buffer .now in
-    let n = a .file-length in
-    let r = readOf (a .name .now) (a .clips) (a .values .now) (a .increments .now) (a .bases .now) (a .qualities .now) in
-    let f = append-file-fits b n r (c .before .before .before .before .before .before .before .before .before .append-test .ensures) (c .before .before .before .before .before .before .before .enum-told .given .1) in search needs)
-    (λ c κs.
-    let a = c .before .before .before .before .before .before .before .before .before .before .before .before .before .before .before .before .before .before .before .before .args in
-    let b = a .buffer .now in
-    let n = a .file-length in
-    let r = readOf (a .name .now) (a .clips) (a .values .now) (a .increments .now) (a .bases .now) (a .qualities .now) in
-    let y = bytes-of b (λ j. c .before .before .before .before .before .before .before .before .before .before .before .before .before .before .before .before .before .before .before .slice-known .given j .fits) in
-    let m = append-name-fits b n r (c .before .before .before .before .before .before .before .before .before .before .before .before .append-test .ensures) (c .before .before .before .before .before .before .before .before .before .before .enum-told .given .1) in
-    (omega (arith, m), append-values b n r (c .before .before .before .before .before .before .before .before .before .before .before .before .append-test .ensures) (c .before .before .before .before .before .before .before .before .before .before .enum-told .given .1) y, append-counts b n r (c .before .before .before .before .before .before .before .before .before .before .before .before .append-test .ensures) (c .before .before .before .before .before .before .before .before .before .before .enum-told .given .1) .2))
+    (λ c κs. let f = fits (accepted (c .before .before .before)) in search needs)
+    (λ c κs. let f = fits (counted c) in search needs)
     (λ c.
-    let a = c .before .before .before .before .before .before .before .before .before .before .before .before .before .before .before .before .before .before .before .before .before .args in
-    let b = a .buffer .now in
-    let n = a .file-length in
-    let r = readOf (a .name .now) (a .clips) (a .values .now) (a .increments .now) (a .bases .now) (a .qualities .now) in
-    let f : n + c .read-size .result ≤ length b = append-end b n r (c .before .before .before .before .before .before .before .before .before .before .before .before .before .append-test .ensures) (c .before .before .before .before .before .before .before .before .before .before .before .enum-told .given .1) (c .read-size .ensures) in
-    let q : length b < 18446744073709551616 = c .before .before .before .before .before .before .before .before .before .before .before .before .before .before .before .before .before .before .before .before .before .good .0 .0 in search needs)
+    let f = fits (counted (c .before)) in
+    let s = start (counted (c .before)) in
+    let q : length (s .args .buffer .now) < 18446744073709551616 = s .good .0 .0 in search needs)
     (λ c. search needs)
     (λ c. (search append-outcome, search append-buffer)))

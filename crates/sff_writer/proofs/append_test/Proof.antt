@@ -3,7 +3,7 @@ use mathlib.Core.Path.{sym}
 use native.Mathlib.Omega.{arith}
 use lib.Seq.{length-take-le}
 use Rattle.answers.proofs.Chains.{refusal, onward}
-use Rattle.sff_format.specs.Writing.{readOf, appendTest}
+use Rattle.sff_format.specs.Writing.{appendTest}
 use Rattle.sff_writer.proofs.Reasons.{open-header, open-characters, given-bounds, append-tested, read-over, read-within}
 use borrow.Author.Needs.{needs}
 use Rattle.sff_writer.proofs.append_test.Statement.{statement}
@@ -37,8 +37,6 @@ append-test-spec =
     (λ c. search needs)
     (λ c. search (refusal, append-tested))
     (λ c. search needs)
-    (λ c κs.
-    let a = c .before .before .before .before .before .before .before .before .before .before .before .before .before .before .before .before .args in
-    given-bounds _ (readOf (a .name .now) (a .clips) (a .values .now) (a .increments .now) (a .bases .now) (a .qualities .now)) (c .before .before .given-test .ensures) (c .enum-told3 .given .1) (omega arith))
+    (λ c κs. given-bounds _ _ (c .before .before .given-test .ensures) (c .enum-told3 .given .1) (omega arith))
     (λ c. search (refusal, append-tested, read-over) depth 9)
     (λ c. search (onward, append-tested, read-within) depth 9))

@@ -65,8 +65,7 @@ use Rattle.claims.proofs.MarkedCases.{marked}
 -- "Each public entry point tests for itself and answers, or has a companion call that answers, with a number from
 -- document 01's list."
 -- The entry points are the table `Call`, the same list as in docs/API.md; a call with a companion has the companion's
--- answer in its row. The exceptions are the calls that put text into a lent buffer (docs/API.md, "Text and helpers"):
--- they answer its length, and 0 without room.
+-- answer in its row.
 -- Code: each function of the table.
 -- Shuts out:
 --   a call with a number of its own (sff_find/another_number, sff_format/number_of_its_own)
@@ -97,12 +96,15 @@ refused-unchanged = refused-left
 -- "what other lent memory holds is stated there."
 -- After a refusal each buffer that a call was lent to write holds what document 01 says of it: the column `if-refused`
 -- of the table. A new file, an append, an encoding and SCF samples change nothing; a list leaves what its records
--- before the refused one left; undoing zeroes both buffers.
+-- before the refused one left; undoing zeroes both buffers. A text that does not fit changes nothing either, or, where
+-- it is put into an undo's buffers, leaves both zero.
 -- Code: `sff_writer::new_file`, `append`; `sff_corrector::correct`, `correct_list`; `filters::undo`, `undo_layer`;
--- `filter_encode::encode`; `scf_samples::encode_samples`, `undo_samples`; `service::sffstore_correct`.
+-- `filter_encode::encode`; `scf_samples::encode_samples`, `undo_samples`; `listing::list`, `print`; `report::report`,
+-- `too_long`; `unfiltering::print`; `service::sffstore_correct`.
 -- Shuts out:
 --   an undo that leaves a buffer as it was (filters/second_not_zeroed, claims/refused_undo_leaves_the_second)
 --   a list that takes back what its earlier records did (claims/refused_list_changes_nothing)
+--   a text that is put though it is refused (text/put_though_refused)
 pub memory-after-refusal : (c : Call) → (numberOf (row c .answer) ≡ 0 → ⊥) → row c .memory ≡ row c .if-refused
 memory-after-refusal = row-refused
 

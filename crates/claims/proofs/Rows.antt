@@ -18,7 +18,12 @@ use Rattle.sff_correction.proofs.ListClaim.{list-numbers}
 use Rattle.sff_correction.proofs.InTurn.{earlier-left}
 use Rattle.filter_format.specs.Undo.{roomOf, undo, undoLayer}
 use Rattle.filter_format.proofs.Refusals.{undo-numbers, layer-numbers, encode-numbers, encode-samples-numbers, undo-samples-numbers, undo-none, layer-none, encode-none, encode-samples-none, undo-samples-none}
-use Rattle.claims.specs.Calls.{Call, file-test, header-test, flow-characters, key, reader-fresh, reader-step, view-test, view-name, view-values, view-increments, view-bases, view-qualities, view-insert, first-base, last-base, position-test, insert, insert-ends, signal-test, signal, new-file, append, record-test, correct, correct-list, undo-block, undo-layer, encode-layer, encode-samples, undo-samples, sffstore-test, sffstore-correct, row, zeros, documentNumbers}
+use Rattle.text.proofs.Fitted.{fitted-numbers, fitted-none}
+use Rattle.lines.specs.Lines.{tooLong}
+use Rattle.listing.specs.Listing.{listing, printed}
+use Rattle.report.specs.Report.{reported}
+use Rattle.unfiltering.specs.Unfiltering.{unfilterText}
+use Rattle.claims.specs.Calls.{Call, file-test, header-test, flow-characters, key, reader-fresh, reader-step, view-test, view-name, view-values, view-increments, view-bases, view-qualities, view-insert, first-base, last-base, position-test, insert, insert-ends, signal-test, signal, new-file, append, record-test, correct, correct-list, undo-block, undo-layer, encode-layer, encode-samples, undo-samples, list-file, print-listing, report-run, report-too-long, print-block, sffstore-test, sffstore-correct, row, zeros, documentNumbers}
 
 -- one of its own numbers, all of which document 01 has
 pub row-numbers : (c : Call) → Among (row c .numbers) (row c .answer) × (within (row c .numbers) documentNumbers ≡ true)
@@ -53,6 +58,11 @@ row-numbers (undo-layer b first second) = (layer-numbers (roomOf first second) b
 row-numbers (encode-layer format level follow s out) = (encode-numbers (length out) format level follow s, refl)
 row-numbers (encode-samples precision s out) = (encode-samples-numbers (length out) precision s, refl)
 row-numbers (undo-samples precision s out) = (undo-samples-numbers (length out) precision s, refl)
+row-numbers (list-file b out) = (fitted-numbers (length out) (listing b), refl)
+row-numbers (print-listing b out) = (fitted-numbers (length out) (printed b), refl)
+row-numbers (report-run o out) = (fitted-numbers (length out) (reported o), refl)
+row-numbers (report-too-long out) = (fitted-numbers (length out) tooLong, refl)
+row-numbers (print-block b first second) = (fitted-numbers (length first) (unfilterText (roomOf first second) b), refl)
 row-numbers (sffstore-test b) = (file-numbers b, refl)
 row-numbers (sffstore-correct buffer len r) = (outcome-numbers buffer len r, refl)
 
@@ -101,5 +111,10 @@ row-refused (undo-layer b first second) h = zeroed _ first second (layer-none (r
 row-refused (encode-layer format level follow s out) h = rw (encode-none (length out) format level follow s h) (ap (λ (x : List ℕ). x ∷ []) (put-nil 0 out))
 row-refused (encode-samples precision s out) h = rw (encode-samples-none (length out) precision s h) (ap (λ (x : List ℕ). x ∷ []) (put-nil 0 out))
 row-refused (undo-samples precision s out) h = rw (undo-samples-none (length out) precision s h) (ap (λ (x : List ℕ). x ∷ []) (put-nil 0 out))
+row-refused (list-file b out) h = rw (fitted-none (length out) (listing b) h) (ap (λ (x : List ℕ). x ∷ []) (put-nil 0 out))
+row-refused (print-listing b out) h = rw (fitted-none (length out) (printed b) h) (ap (λ (x : List ℕ). x ∷ []) (put-nil 0 out))
+row-refused (report-run o out) h = rw (fitted-none (length out) (reported o) h) (ap (λ (x : List ℕ). x ∷ []) (put-nil 0 out))
+row-refused (report-too-long out) h = rw (fitted-none (length out) tooLong h) (ap (λ (x : List ℕ). x ∷ []) (put-nil 0 out))
+row-refused (print-block b first second) h = zeroed _ first second (fitted-none (length first) (unfilterText (roomOf first second) b) h)
 row-refused (sffstore-test b) h = refl
 row-refused (sffstore-correct buffer len r) h = ap (λ (x : List ℕ). x ∷ []) (refused-left buffer len r h .1)

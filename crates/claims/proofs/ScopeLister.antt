@@ -1,22 +1,25 @@
 -- Sentences of document 01 on what the lister prints, in its order, as theorems over the definitions
--- (`listing::print`, whose room is enough for any of it). Text is bytes. Assumes nothing.
+-- (`listing::print`). Text is bytes. Assumes nothing.
 use Prim.Native.Nat.{ℕ, _^_, _≤_, _<_}
-use mathlib.Core.Path.{_≡_, _∙_}
+use mathlib.Core.Path.{_≡_, ap, _∙_}
+use mathlib.Core.Logic.{_↔_}
 use mathlib.Core.List.{List, [], _∷_, _++_, flatten}
 use native.Mathlib.Nat.{zero-add}
 use lib.ListN.{length, set, getD}
+use Rattle.octets.specs.Numbers.{Bytes}
 use Rattle.answers.specs.declared.Answer.the-variants.{Accepted, Refused}
 use Rattle.sff_format.specs.FileTest.{fileTest}
 use Rattle.sff_format.specs.Parse.{parse}
 use Rattle.sff_format.specs.Places.{readAt}
 use Rattle.sff_format.specs.Insert.{insertFirst, insertLast, insertOf}
-use Rattle.text.specs.Writing.{orDash}
+use Rattle.text.specs.Writing.{orDash, Fitted, fitted}
 use Rattle.text.specs.Decimal.{decimal}
 use Rattle.text.proofs.Writing.{dash, word}
+use Rattle.text.proofs.Fitted.{fits, fits-not, longer}
 use Rattle.text.proofs.Decimal.{spelt, spells, OfDigits, decimal-digits}
 use Rattle.lines.proofs.WrittenOut.{header-line, read-line, refusal-line}
 use Rattle.listing.specs.Listing.{fileLines, printed}
-use Rattle.listing.proofs.Printed.{linesOf, lines-together, lines-counted, line-at, printed-accepted, printed-refused, printed-long}
+use Rattle.listing.proofs.Printed.{linesOf, lines-together, lines-counted, line-at, printed-accepted, printed-refused, printed-long, printed-most}
 use Rattle.claims.specs.Marked.{eBytes}
 use Rattle.claims.proofs.ScopeCases.{text-in-E, text-of-clip}
 
@@ -71,3 +74,11 @@ refusal-of-clip = text-of-clip
 -- "longer input than 65,536 bytes prints `too long`"
 pub text-too-long : (b : List ℕ) → 65536 < length b → printed b ≡ 116 ∷ 111 ∷ 111 ∷ 32 ∷ 108 ∷ 111 ∷ 110 ∷ 103 ∷ 10 ∷ []
 text-too-long = printed-long
+
+-- the lister's buffer (`listing::print_room`) holds any of these texts, so its answer is 0 throughout
+pub text-fits : (b : List ℕ) → Bytes b → fitted 458816 (printed b) ≡ record { answer = Accepted; text = printed b }
+text-fits b y = fits 458816 (printed b) (printed-most b y)
+
+-- and in any buffer a text is refused, with 26, exactly if it is longer
+pub text-refused : (room : ℕ) (text : List ℕ) → (fitted room text .answer ≡ Refused 26 0) ↔ (room < length text)
+text-refused room text = (longer room text, (λ h. ap (λ (f : Fitted). f .answer) (fits-not room text h)))

@@ -5,6 +5,7 @@
 use Prim.Native.Nat.{ℕ}
 use mathlib.Core.List.{List, [], _∷_}
 use lib.ListN.{length, replicate}
+use Rattle.octets.specs.Parts.{putAt, filled}
 use Rattle.answers.specs.declared.Answer.{Answer}
 use Rattle.sff_format.specs.declared.ReadView.{ReadView}
 use Rattle.sff_format.specs.Model.{Read}
@@ -15,6 +16,7 @@ use Rattle.sff_format.specs.Step.{State, stepAnswer, step}
 use Rattle.sff_format.specs.Position.{positionTest, signalTest}
 use Rattle.sff_format.specs.Writing.{newOutcome, newBuffer, appendOutcome, appendBuffer}
 use Rattle.sff_format.specs.Numbers.{headerNumbers, fileNumbers, viewNumbers, stepNumbers, positionNumbers, signalNumbers, newNumbers, appendNumbers}
+use Rattle.sff_correction.specs.declared.ListOutcome.{ListOutcome}
 use Rattle.sff_correction.specs.Record.{recordTest}
 use Rattle.sff_correction.specs.Correct.{correctOutcome, correctBuffer}
 use Rattle.sff_correction.specs.ListRun.{firstRecords, runList}
@@ -23,6 +25,11 @@ use Rattle.filter_format.specs.Undo.{roomOf, undo, undoLayer, firstAfter, secon
 use Rattle.filter_format.specs.Encode.{encode, outAfter}
 use Rattle.filter_format.specs.Samples.{encodeSamples, undoSamples}
 use Rattle.filter_format.specs.Numbers.{undoNumbers, layerNumbers, encodeNumbers, samplesNumbers}
+use Rattle.text.specs.Writing.{fitted, textNumbers}
+use Rattle.lines.specs.Lines.{tooLong}
+use Rattle.listing.specs.Listing.{listing, printed}
+use Rattle.report.specs.Report.{reported}
+use Rattle.unfiltering.specs.Unfiltering.{printedBy}
 
 -- each as its function takes it; "by" names the companion call that answers for it on the same inputs
 pub data Call : Type 0 where
@@ -87,6 +94,16 @@ pub data Call : Type 0 where
   encode-samples : ℕ → List ℕ → List ℕ → Call
   -- `scf_samples::undo_samples(precision, source, out)`
   undo-samples : ℕ → List ℕ → List ℕ → Call
+  -- `listing::list(file, out)`
+  list-file : List ℕ → List ℕ → Call
+  -- `listing::print(input, out)`
+  print-listing : List ℕ → List ℕ → Call
+  -- `report::report(outcome, out)`
+  report-run : ListOutcome → List ℕ → Call
+  -- `report::too_long(out)`
+  report-too-long : List ℕ → Call
+  -- `unfiltering::print(input, first, second)`
+  print-block : List ℕ → List ℕ → List ℕ → Call
   -- `service::sffstore_test(file)`
   sffstore-test : List ℕ → Call
   -- `service::sffstore_correct(buffer, file_length, record)`
@@ -107,6 +124,10 @@ reading answer numbers = record { answer = answer; numbers = numbers; memory = [
 -- one that writes to one buffer, and nothing if it refuses
 abbrev pub writing : Answer → List ℕ → List ℕ → List ℕ → Row
 writing answer numbers after buffer = record { answer = answer; numbers = numbers; memory = after ∷ []; if-refused = buffer ∷ [] }
+
+-- one that puts a text at the front of a buffer, if it fits
+abbrev pub putting : List ℕ → List ℕ → Row
+putting text out = writing (fitted (length out) text .answer) textNumbers (putAt 0 (fitted (length out) text .text) out) out
 
 abbrev pub zeros : List ℕ → List ℕ
 zeros buffer = replicate (length buffer) 0
@@ -165,6 +186,17 @@ row (encode-samples precision s out) =
     writing (encodeSamples (length out) precision s .answer) samplesNumbers (outAfter (encodeSamples (length out) precision s) out) out
 row (undo-samples precision s out) =
     writing (undoSamples (length out) precision s .answer) samplesNumbers (outAfter (undoSamples (length out) precision s) out) out
+-- 26 exactly if the text is longer than the buffer, which is then as it was; or zero, where it is one of an undo's
+row (list-file b out) = putting (listing b) out
+row (print-listing b out) = putting (printed b) out
+row (report-run o out) = putting (reported o) out
+row (report-too-long out) = putting tooLong out
+row (print-block b first second) = record {
+  answer = printedBy first second b .answer;
+  numbers = textNumbers;
+  memory = filled (length first) (printedBy first second b .text) ∷ secondAfter second ∷ [];
+  if-refused = zeros first ∷ zeros second ∷ [];
+}
 row (sffstore-test b) = reading (fileTest b) fileNumbers
 row (sffstore-correct buffer len r) = writing (correctOutcome buffer len r .answer) correctNumbers (correctBuffer buffer len r) buffer
 

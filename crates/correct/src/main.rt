@@ -1,10 +1,10 @@
 // correct FILE RECORDS NEW-FILE: runs a list of correction records on a file of at most 65,536 bytes, writes the corrected file under a new name and prints
 // the answer.
 use libc::STDERR_FILENO;
-use libc::STDOUT_FILENO;
 use loading::Loaded;
 use loading::load_argument;
 use octets::stretch;
+use printing::print_text;
 use sff_correction::ListOutcome;
 
 // Writes a file under the name that an argument gives, which no file may have yet, and answers whether it is there.
@@ -33,8 +33,8 @@ fn deliver(outcome: ListOutcome, buffer: &[u8]) {
         }
     }
     let mut text = report::report_room();
-    let k = report::report(outcome, &mut text);
-    io::write_all(STDOUT_FILENO, &text[..k]);
+    let written = report::report(outcome, &mut text);
+    print_text(written, &text);
 }
 
 fn correct() {

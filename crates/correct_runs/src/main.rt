@@ -3,6 +3,7 @@ use libc::STDOUT_FILENO;
 use loading::Loaded;
 use loading::load_argument;
 use octets::stretch;
+use printing::print_text;
 use sff_correction::ListOutcome;
 
 fn print_argument(i: usize, end: &[u8]) {
@@ -15,12 +16,12 @@ fn print_argument(i: usize, end: &[u8]) {
 // Prints the answer, and the listing of the file that `correct` would write.
 fn print_outcome(outcome: ListOutcome, buffer: &[u8]) {
     let mut text = report::report_room();
-    let k = report::report(outcome, &mut text);
-    io::write_all(STDOUT_FILENO, &text[..k]);
+    let written = report::report(outcome, &mut text);
+    print_text(written, &text);
     if report::is_written(outcome) {
         let mut lines = listing::print_room();
-        let m = listing::print(stretch(buffer, 0, outcome.length), &mut lines);
-        io::write_all(STDOUT_FILENO, &lines[..m]);
+        let listed = listing::print(stretch(buffer, 0, outcome.length), &mut lines);
+        print_text(listed, &lines);
     }
 }
 

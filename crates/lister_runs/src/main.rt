@@ -1,5 +1,6 @@
 // What the lister prints of each file that is named, one after another: many stored runs in one.
 use libc::STDOUT_FILENO;
+use printing::print_text;
 
 fn print_file(i: usize) {
     let mut path = io::buffer();
@@ -13,10 +14,10 @@ fn print_file(i: usize) {
     let m = io::read_full(fd, &mut input);
     libc::close(fd);
     let mut text = listing::print_room();
-    let k = listing::print(&input[..m], &mut text);
+    let written = listing::print(&input[..m], &mut text);
     io::write_all(STDOUT_FILENO, &path[..n]);
     io::write_all(STDOUT_FILENO, b":\n");
-    io::write_all(STDOUT_FILENO, &text[..k]);
+    print_text(written, &text);
 }
 
 fn main() {

@@ -1,17 +1,21 @@
 -- What is printed, as lines: the header's and one for each read, in order; a refusal's; or `too long`. Assumes nothing.
 use Prim.Native.Nat.{ℕ, zero, suc, _+_, _≤_, _<_}
 use mathlib.Core.Path.{_≡_, refl, ap, _∙_}
+use mathlib.Core.Bool.{Bool, true, false, cond}
 use mathlib.Core.List.{List, [], _∷_, _++_, flatten}
 use native.Mathlib.Omega.{arith}
+use lib.Dec.{ltb}
 use lib.ListN.{length, getD}
-use borrow.Author.Tests.{lt-ltb, le-ltb}
+use borrow.Author.Tests.{ltb-false, lt-ltb, le-ltb}
+use Rattle.octets.specs.Numbers.{Bytes}
 use Rattle.answers.specs.declared.Answer.the-variants.{Accepted, Refused}
 use Rattle.sff_format.specs.Model.{Read}
 use Rattle.sff_format.specs.FileTest.{fileTest}
 use Rattle.sff_format.specs.Parse.{parse}
 use Rattle.sff_format.specs.Places.{noRead}
 use Rattle.lines.specs.Lines.{refusalLine, tooLong}
-use Rattle.listing.specs.Listing.{lineOf, linesFrom, fileLines, listing, printed}
+use Rattle.listing.specs.Listing.{lineOf, linesFrom, fileLines, listing, enough, printed}
+use Rattle.listing.proofs.Lengths.{listing-short}
 use Rattle.listing.proofs.Whole.{listing-accepted, listing-refused}
 
 -- the lines of reads from a position on, one by one
@@ -51,3 +55,12 @@ module _ (b : List ℕ) where
   pub printed-long : 65536 < length b → printed b ≡ tooLong
   unfolding printed
   printed-long h = rw (lt-ltb 65536 (length b) h)
+
+  -- room for whatever is printed
+  pub printed-most : Bytes b → length (printed b) ≤ enough 65536
+  unfolding printed
+  printed-most y = go (ltb 65536 (length b)) refl
+    where
+      go : (t : Bool) → ltb 65536 (length b) ≡ t → length (cond t tooLong (listing b)) ≤ enough 65536
+      go true e = omega arith
+      go false e = let s = listing-short b y in let h = ltb-false 65536 (length b) e in omega arith

@@ -1,6 +1,6 @@
 // A file that a program reads whole.
 ghost use Rattle.loading.specs.Loading.{Fits};
-use libc::STDOUT_FILENO;
+use printing::print_text;
 
 // A file that was read, with its length; or one that was not, and why is printed.
 pub enum Loaded {
@@ -10,8 +10,8 @@ pub enum Loaded {
 
 fn print_too_long() {
     let mut text = report::report_room();
-    let k = report::too_long(&mut text);
-    io::write_all(STDOUT_FILENO, &text[..k]);
+    let written = report::too_long(&mut text);
+    print_text(written, &text);
 }
 
 // Reads the file at a path.

@@ -5,12 +5,12 @@ use mathlib.Core.Bool.{Bool, true, false}
 use mathlib.Core.List.{List, [], _++_}
 use native.Mathlib.Omega.{arith}
 use lib.Dec.{ltb}
-use borrow.Author.Tests.{ltb-false, lt-ltb, le-ltb}
+use borrow.Author.Tests.{ltb-true, ltb-false, lt-ltb, le-ltb}
 use lib.ListN.{length, take, length-append}
 use Rattle.octets.specs.Parts.{putAt}
 use Rattle.answers.specs.declared.Answer.the-variants.{Accepted, Refused}
 use Rattle.answers.specs.Answer.{numberOf, when, acceptedOr, among, Among}
-use Rattle.answers.proofs.Answers.{refused-or}
+use Rattle.answers.proofs.Answers.{refused-or, refused-not}
 use Rattle.answers.proofs.Numbered.{when-refusing}
 use Rattle.text.specs.declared.Written.{Written}
 use Rattle.text.specs.Writing.{fitted, written, textNumbers}
@@ -24,6 +24,14 @@ module _ (room : ℕ) (xs : List ℕ) where
   pub fits-not : room < length xs → fitted room xs ≡ record { answer = Refused 26 0; text = [] }
   unfolding fitted when acceptedOr
   fits-not h = rw (lt-ltb room (length xs) h)
+
+  pub longer : fitted room xs .answer ≡ Refused 26 0 → room < length xs
+  unfolding fitted when
+  longer e = go (ltb room (length xs)) refl e
+    where
+      go : (t : Bool) → ltb room (length xs) ≡ t → when t 26 0 ≡ Refused 26 0 → room < length xs
+      go true h f = ltb-true room (length xs) h
+      go false h f = refused-not 26 0 f
 
   pub fitted-numbers : Among textNumbers (fitted room xs .answer)
   unfolding fitted among

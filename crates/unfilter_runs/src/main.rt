@@ -1,5 +1,6 @@
 // What `unfilter` writes of each block that is named, and a line's end, one after another: many stored runs in one.
 use libc::STDOUT_FILENO;
+use printing::print_text;
 
 fn print_block(i: usize) {
     let mut path = io::buffer();
@@ -14,10 +15,10 @@ fn print_block(i: usize) {
     libc::close(fd);
     let mut first = unfiltering::print_room();
     let mut second = unfiltering::print_room();
-    let k = unfiltering::print(&input[..m], &mut first, &mut second);
+    let written = unfiltering::print(&input[..m], &mut first, &mut second);
     io::write_all(STDOUT_FILENO, &path[..n]);
     io::write_all(STDOUT_FILENO, b":\n");
-    io::write_all(STDOUT_FILENO, &first[..k]);
+    print_text(written, &first);
     io::write_all(STDOUT_FILENO, b"\n");
 }
 

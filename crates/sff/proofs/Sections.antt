@@ -10,15 +10,16 @@ use Rattle.answers.specs.declared.Answer.{Answer}
 use Rattle.answers.specs.declared.Answer.the-variants.{Accepted, Refused}
 use Rattle.answers.specs.Answer.{_then_}
 use Rattle.sff_format.specs.Rules.{indexSize}
-use Rattle.sff_format.specs.HeaderTest.{indexLength, flows, flowCharacters, headerTest}
+use Rattle.sff_format.specs.HeaderTest.{readCount, headerLength, flows, headerTest}
 use Rattle.sff_format.specs.ReadTest.{readTest, readEnd}
 use Rattle.sff_format.specs.FileTest.{indexDue, indexHere, passTest, endTest, boundaryTest}
 use Rattle.sff_format.proofs.HeaderLaws.{header-fits, header-sized}
 use Rattle.sff_format.proofs.Boundaries.{boundary-end, boundary-read, boundary-index}
+use Rattle.sff_format.proofs.Indexes.{pass-fits}
 use Rattle.sff_format.proofs.Steps.{read-fits}
 use Rattle.sff_header.specs.declared.Header.{Header}
 use Rattle.sff_header.specs.Header.{headerOf}
-use Rattle.sff_header.proofs.Fields.{offset-of, index-length-of}
+use Rattle.sff_header.proofs.Fields.{offset-of, index-length-of, reads-of, length-of, flows-of}
 
 -- the flow characters of an accepted header lie in the file
 pub characters-fit : (b : List ℕ) → headerTest b ≡ Accepted → 31 + flows b ≤ length b
@@ -28,47 +29,64 @@ characters-fit b e = let f = header-fits b e in let s = header-sized b e in omeg
 pub due-is : (h : Header) (b : List ℕ) → h ≡ headerOf b → (p : ℕ) (q r : Bool) → r ≡ indexDue (h .«index_offset») (h .«index_length») p q → (t : Bool) → r ≡ t → indexHere b p q ≡ t
 due-is h b e p q r d t f = rw (offset-of h b e, index-length-of h b e) (sym d ∙ f)
 
--- n reads are left at the boundary p, and what it asks is the whole answer
-pub record Going (b : List ℕ) (whole : Answer) (n p : ℕ) (q : Bool) : Type 0 where
+-- n reads are left at the boundary p, and what it asks is the whole answer; the code has the header's fields
+pub record Going (h : Header) (b : List ℕ) (whole : Answer) (n p : ℕ) (q : Bool) : Type 0 where
   pub head : headerTest b ≡ Accepted
+  pub fields : h ≡ headerOf b
   pub fits : p ≤ length b
   pub is : whole ≡ boundaryTest b n p q
 
-pub going-start : (b : List ℕ) → headerTest b ≡ Accepted → (n p : ℕ) (q : Bool) → p ≤ length b → Going b (boundaryTest b n p q) n p q
-going-start b e n p q h = record { head = e; fits = h; is = refl }
+module _ {h : Header} {b : List ℕ} (e : headerTest b ≡ Accepted) (f : h ≡ headerOf b) where
+  pub going-start : (n p : ℕ) (q : Bool) → p ≤ length b → Going h b (boundaryTest b n p q) n p q
+  going-start n p q l = record { head = e; fields = f; fits = l; is = refl }
 
-module _ {b : List ℕ} {w : Answer} {n p : ℕ} {q : Bool} (g : Going b w n p q) where
-  module _ (h : indexHere b p q ≡ true) where
-    -- what the boundary past the index asks
-    pub stop-past : (a : Answer) (x : ℕ) → passTest b p ≡ Accepted → x ≡ p + indexSize (indexLength b) → a ≡ boundaryTest b n x true → a ≡ w
+  pub going-first : Going h b (boundaryTest b (readCount b) (headerLength b) false) (h .reads) (h .length) false
+  going-first = record { head = e; fields = f; fits = rw (length-of h b f) at (header-fits b e); is = rw (reads-of h b f, length-of h b f) }
+
+module _ {h : Header} {b : List ℕ} {w : Answer} {n p : ℕ} {q : Bool} (g : Going h b w n p q) where
+  pub going-due : {r t : Bool} → r ≡ indexDue (h .«index_offset») (h .«index_length») p q → r ≡ t → indexHere b p q ≡ t
+  going-due {r} {t} d e = due-is h b (g .fields) p q r d t e
+
+  pub going-characters : 31 + h .flows ≤ length b
+  going-characters = rw (← (flows-of h b (g .fields))) (characters-fit b (g .head))
+
+  module _ (i : indexHere b p q ≡ true) where
+    pub stop-index : {a : Answer} {k z : ℕ} → a ≡ passTest b p → a ≡ Refused k z → a ≡ w
     unfolding _then_
-    stop-past a x t e r = r ∙ ap (λ (i : ℕ). boundaryTest b n i true) e ∙ sym (g .is ∙ boundary-index b p q h n ∙ rw t)
+    stop-index e r = sym (g .is ∙ boundary-index b p q i n ∙ rw (← e, r))
 
-    pub stop-index : (a : Answer) (k z : ℕ) → a ≡ passTest b p → a ≡ Refused k z → a ≡ w
-    unfolding _then_
-    stop-index a k z e r = sym (g .is ∙ boundary-index b p q h n ∙ rw (← e, r))
+    -- past the index, which is `size` bytes long
+    module _ (t : passTest b p ≡ Accepted) {size : ℕ} (e : size ≡ indexSize (h .«index_length»)) where
+      pub past-inside : p + size ≤ length b
+      past-inside = rw (e, ← (index-length-of h b (g .fields))) (pass-fits b p t)
 
-  module _ (h : indexHere b p q ≡ false) where
-    pub stop-end : (a : Answer) → n ≡ 0 → a ≡ endTest b p q → a ≡ w
-    stop-end a z e = sym (g .is ∙ ap (λ (m : ℕ). boundaryTest b m p q) z ∙ boundary-end b p q h ∙ sym e)
-
-    -- F is the file's number of flows
-    module _ (F : ℕ) (f : F ≡ flows b) where
-      pub going-read : (x : ℕ) → 0 < n → readTest (part 31 F b) b p ≡ Accepted → x ≡ readEnd F b p → Going b w (n - 1) x q
+      pub stop-past : {a : Answer} → a ≡ boundaryTest b n (p + size) true → a ≡ w
       unfolding _then_
-      going-read x s a e =
+      stop-past r = r ∙ rw (e, ← (index-length-of h b (g .fields))) (sym (g .is ∙ boundary-index b p q i n ∙ rw t))
+
+  module _ (i : indexHere b p q ≡ false) where
+    pub stop-end : {a : Answer} → n ≡ 0 → a ≡ endTest b p q → a ≡ w
+    stop-end z e = sym (g .is ∙ ap (λ (m : ℕ). boundaryTest b m p q) z ∙ boundary-end b p q i ∙ sym e)
+
+    module _ (s : 0 < n) where
+      one : w ≡ (readTest (part 31 (h .flows) b) b p then boundaryTest b (n - 1) (readEnd (h .flows) b p) q)
+      one =
           let m : n ≡ suc (n - 1) = omega arith in
-          let r : readTest (flowCharacters b) b p ≡ Accepted = rw f at a in
-          let y : x ≡ readEnd (flows b) b p = rw f at e in
+          rw (← (flows-of h b (g .fields))) (g .is ∙ ap (λ (k : ℕ). boundaryTest b k p q) m ∙ boundary-read b p q i (n - 1))
+
+      pub going-read : {x : ℕ} → readTest (part 31 (h .flows) b) b p ≡ Accepted → x ≡ readEnd (h .flows) b p → Going h b w (n - 1) x q
+      unfolding _then_
+      going-read {x} a e =
+          rw e
+          (
           record {
             head = g .head;
-            fits = rw y (read-fits b (g .head) p r);
-            is = g .is ∙ ap (λ (k : ℕ). boundaryTest b k p q) m ∙ boundary-read b p q h (n - 1) ∙ rw (r, y);
+            fields = g .fields;
+            fits = rw (← (flows-of h b (g .fields))) (read-fits b (g .head) p (rw (← (flows-of h b (g .fields))) at a));
+            is = one ∙ rw a;
           }
+          )
 
-      pub stop-read : (a : Answer) (k z : ℕ) → 0 < n → a ≡ readTest (part 31 F b) b p → a ≡ Refused k z → a ≡ w
+      pub stop-read : {a : Answer} {k z : ℕ} → a ≡ readTest (part 31 (h .flows) b) b p → a ≡ Refused k z → a ≡ w
       unfolding _then_
-      stop-read a k z s e r =
-          let m : n ≡ suc (n - 1) = omega arith in
-          let t : readTest (flowCharacters b) b p ≡ a = rw f at (sym e) in
-          sym (g .is ∙ ap (λ (i : ℕ). boundaryTest b i p q) m ∙ boundary-read b p q h (n - 1) ∙ rw (t, r))
+      stop-read e r = sym (one ∙ rw (← e, r))

@@ -14,10 +14,10 @@ use Rattle.octets.specs.Numbers.{Bytes}
 use Rattle.answers.specs.declared.Answer.the-variants.{Accepted}
 use Rattle.answers.proofs.Answers.{or-left, or-right}
 use Rattle.sff_format.specs.declared.Boundary.{Boundary}
-use Rattle.sff_format.specs.Rules.{declared, badIndexLength, badIndex, indexSize}
-use Rattle.sff_format.specs.HeaderTest.{indexOffset, indexLength, readCount, headerLength, flows, flowCharacters, headerTest}
+use Rattle.sff_format.specs.Rules.{declared, badIndexLength, badIndex}
+use Rattle.sff_format.specs.HeaderTest.{indexOffset, indexLength, readCount, headerLength, flows, flowCharacters}
 use Rattle.sff_format.specs.ReadTest.{nameLength, readTest, readEnd}
-use Rattle.sff_format.specs.FileTest.{indexDue, indexHere, pastIndex, boundaryTest, fileTest}
+use Rattle.sff_format.specs.FileTest.{indexHere, boundaryTest, fileTest}
 use Rattle.sff_format.specs.Parse.{parseRead, parse}
 use Rattle.sff_format.specs.Places.{noRead, readAt, placeFrom, readPlace}
 use Rattle.sff_format.specs.Walk.{firstBoundary, readStart, nextBoundary, boundaryAfter, startAfter, boundaryAt, Walk}

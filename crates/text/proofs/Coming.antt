@@ -1,5 +1,5 @@
--- A text that a loop puts piece by piece: what is to come, put at the place that is reached, leaves what the whole leaves; and one that a loop measures so.
--- Assumes nothing.
+-- A text that a loop puts piece by piece: what is to come, put at the place that is reached, leaves what the whole
+-- leaves; and one that a loop measures so. Assumes nothing.
 use mathlib.Core.Path.{_≡_, refl, sym, ap, _∙_}
 use mathlib.Core.List.{List, [], _++_}
 use Prim.Native.Nat.{ℕ, _+_, _-_, _≤_}

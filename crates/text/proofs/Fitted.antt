@@ -44,7 +44,7 @@ module _ (room : ℕ) (xs : List ℕ) where
   unfolding fitted
   fitted-none h = refused-or (when (ltb room (length xs)) 26 0) xs [] h
 
--- the text xs is put at the front of l, if it fits, and r is what is answered: the two promises of a function that measures it
+-- the text xs is put at the front of l, if it fits, and r is answered: the two promises of a function that measures it
 abbrev pub Put : List ℕ → List ℕ → List ℕ → Written → Type 0
 Put xs l l′ r = (r ≡ written (fitted (length l) xs)) × (l′ ≡ putAt 0 (fitted (length l) xs .text) l)
 

@@ -1,5 +1,6 @@
-// A function that puts text asks for the room that it fills, which the crates above have measured, and answers the place after what it put. The others measure:
-// a line's length, what it leaves of some room, or whether it fits before it is written.
+// A function that puts text asks for the room that it fills, which the crates above have measured, and answers the
+// place after what it put. The others measure: a line's length, what it leaves of some room, or whether it fits before
+// it is written.
 ghost use mathlib.Core.Path.{_≡_};
 ghost use Prim.Native.Nat.{_+_, _-_, _≤_};
 ghost use lib.ListN.{length};

@@ -43,7 +43,8 @@ pub listing-refused : (b : List ℕ) (n p : ℕ) → fileTest b ≡ Refused n p 
 unfolding listing listed
 listing-refused b n p e = rw e
 
--- of so much room the header's line leaves `left`, and the reads' lines leave `last` of that: 0 exactly where both have more than the room
+-- of so much room and one byte the header's line leaves `left`, and the reads' lines leave `last` of that: 0 exactly
+-- where both together have more than the room
 pub measured : (room : ℕ) (xs ys : List ℕ) {left last : ℕ} → left ≡ room + 1 - length xs → last ≡ left - length ys → eqb last 0 ≡ ltb room (length (xs ++ ys))
 measured room xs ys {left} {last} e f = go (ltb room (length (xs ++ ys))) refl
   where

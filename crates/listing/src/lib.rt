@@ -153,7 +153,8 @@ pub fn has_room(size: usize, room: usize) -> bool
     size <= (room - 64) / 7
 }
 
-// Whether so much room is too little for the lines of an accepted file. They are measured only where the room is not enough for any file of that length.
+// Whether so much room is too little for the lines of an accepted file. They are measured only where the room is not
+// enough for any file of that length.
 fn lacks_room(file: &[u8], header: Header, key: &[u8], room: usize) -> bool
     requires { ⌜ fileTest (now file) ≡ Accepted ⌝ }
     requires { ⌜ header ≡ headerOf (now file) ⌝ }
@@ -191,7 +192,7 @@ fn put_file(file: &[u8], out: &mut [u8]) -> Written
     }
 }
 
-// Puts the listing of any bytes at the front of `out`, and answers how many bytes it has; 26 exactly if `out` is shorter.
+// Puts the listing of any bytes at the front of `out`, and answers its length; 26 exactly if `out` is shorter.
 pub fn list(file: &[u8], out: &mut [u8]) -> Written
     ensures { λ r. ⌜ r ≡ written (fitted (length (now (out .entry))) (listing (now (file .entry)))) ⌝ }
     ensures { λ _. ⌜ now (out .exit) ≡ putAt 0 (fitted (length (now (out .entry))) (listing (now (file .entry))) .text) (now (out .entry)) ⌝ }

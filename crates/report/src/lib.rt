@@ -53,7 +53,7 @@ fn put_refused(out: &mut [u8], count: usize, number: usize, place: usize, size: 
     }
 }
 
-// Puts what is printed of a list run at the front of `out`, and answers how many bytes it has; 26 exactly if `out` is shorter.
+// Puts what is printed of a list run at the front of `out`, and answers its length; 26 exactly if `out` is shorter.
 pub fn report(outcome: ListOutcome, out: &mut [u8]) -> Written
     ensures { λ r. ⌜ r ≡ written (fitted (length (now (out .entry))) (reported outcome)) ⌝ }
     ensures { λ _. ⌜ now (out .exit) ≡ putAt 0 (fitted (length (now (out .entry))) (reported outcome) .text) (now (out .entry)) ⌝ }

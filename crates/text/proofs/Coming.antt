@@ -1,10 +1,9 @@
--- A text that a loop puts piece by piece: what is to come, put at the place that is reached, leaves what the whole leaves; and one that a loop measures so.
--- Assumes nothing.
+-- A text that a loop puts piece by piece: what is to come, put at the place that is reached, leaves what the whole
+-- leaves; and one that a loop measures so. Assumes nothing.
 use mathlib.Core.Path.{_≡_, refl, sym, ap, _∙_}
 use mathlib.Core.List.{List, [], _++_}
 use Prim.Native.Nat.{ℕ, _+_, _-_, _≤_}
 use native.Mathlib.Omega.{arith}
-use borrow.Author.Needs.{needs}
 use lib.ListN.{length, length-append}
 use Rattle.octets.specs.Parts.{putAt}
 use Rattle.octets.proofs.Lists.{put-put, put-nil}
@@ -42,9 +41,6 @@ module _ {at : ℕ} {whole l₀ : List ℕ} {p : ℕ} {rest l : List ℕ} (k : C
   coming-done e =
       let f : length rest ≡ 0 = ap length e in
       (omega (arith, f), sym (put-nil p l) ∙ sym (ap (λ (z : List ℕ). putAt p z l) e) ∙ k .is)
-
--- what `search` needs for a loop, beside its own laws: that nothing is left at its end, and `coming-room` and `coming-put` at its next piece, which `search` does not find by itself
-pub ruleset coming = (coming-start, coming-done, needs)
 
 -- of the room for the text `whole`, what all but `rest` of it leaves is `left`
 pub record Left (room : ℕ) (whole : List ℕ) (left : ℕ) (rest : List ℕ) : Type 0 where

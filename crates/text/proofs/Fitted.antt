@@ -1,20 +1,22 @@
 -- A text that is measured: it is put whole where it fits, and else not at all. Assumes nothing.
 use Prim.Native.Nat.{ℕ, _+_, _≤_, _<_}
-use mathlib.Core.Path.{_≡_, refl, ap}
+use mathlib.Core.Path.{_≡_, refl, sym, ap, _∙_}
 use mathlib.Core.Bool.{Bool, true, false}
 use mathlib.Core.List.{List, [], _++_}
 use native.Mathlib.Omega.{arith}
 use lib.Dec.{ltb}
 use borrow.Author.Tests.{ltb-true, ltb-false, lt-ltb, le-ltb}
 use lib.ListN.{length, take, length-append}
+use lib.Seq.{length-take-le}
 use Rattle.octets.specs.Parts.{putAt}
+use Rattle.octets.proofs.Lists.{length-put}
 use Rattle.answers.specs.declared.Answer.the-variants.{Accepted, Refused}
 use Rattle.answers.specs.Answer.{numberOf, when, acceptedOr, among, Among}
 use Rattle.answers.proofs.Answers.{refused-or, refused-not}
 use Rattle.answers.proofs.Numbered.{when-refusing}
 use Rattle.text.specs.declared.Written.{Written}
 use Rattle.text.specs.Writing.{fitted, written, textNumbers}
-use Rattle.text.proofs.Writing.{Wrote, wrote-none, wrote-counts, front, at-front, room-both, two-all}
+use Rattle.text.proofs.Writing.{Wrote, wrote-none, room-both, two-all}
 
 module _ (room : ℕ) (xs : List ℕ) where
   pub fits : length xs ≤ room → fitted room xs ≡ record { answer = Accepted; text = xs }
@@ -42,7 +44,7 @@ module _ (room : ℕ) (xs : List ℕ) where
   unfolding fitted
   fitted-none h = refused-or (when (ltb room (length xs)) 26 0) xs [] h
 
--- the text xs is put at the front of l, if it fits, and r is what is answered: the two promises of a function that measures it
+-- the text xs is put at the front of l, if it fits, and r is answered: the two promises of a function that measures it
 abbrev pub Put : List ℕ → List ℕ → List ℕ → Written → Type 0
 Put xs l l′ r = (r ≡ written (fitted (length l) xs)) × (l′ ≡ putAt 0 (fitted (length l) xs .text) l)
 
@@ -52,9 +54,8 @@ module _ (xs l : List ℕ) where
 
   pub all-put : length xs ≤ length l → {l′ : List ℕ} {n : ℕ} → Wrote 0 xs l l′ n → Put xs l l′ (record { answer = Accepted; length = n })
   all-put h {l′} {n} w =
-      let f = front xs l w in
-      let e : n ≡ length xs = f .0 in
-      rw (fits (length l) xs h) (ap (λ (m : ℕ). record { answer = Accepted; length = m }) e, f .1)
+      let e : n ≡ length xs = let m = w .0 in omega arith in
+      rw (fits (length l) xs h) (ap (λ (m : ℕ). record { answer = Accepted; length = m }) e, w .1)
 
   pub fitted-short : length (fitted (length l) xs .text) ≤ length l
   unfolding fitted when acceptedOr
@@ -68,8 +69,10 @@ module _ (xs l : List ℕ) where
   pub counted : {l′ : List ℕ} {r : Written} → Put xs l l′ r
       → (r ≡ written (fitted (length l) xs)) × ((l′ ≡ putAt 0 (fitted (length l) xs .text) l) × ((r .length ≤ length l′) × (r .length ≡ length (take (r .length) l′))))
   counted {l′} {r} p =
-      let n : r .length ≡ length (fitted (length l) xs .text) = ap (λ (w : Written). w .length) (p .0) in
-      (p .0, (p .1, wrote-counts (at-front _ l (n, p .1)) (record { fits = omega (arith, fitted-short) })))
+      let n = ap (λ (w : Written). w .length) (p .0) in
+      let e = ap length (p .1) ∙ length-put 0 (fitted (length l) xs .text) l (omega (arith, fitted-short)) in
+      let k : r .length ≤ length l′ = omega (arith, n, e, fitted-short) in
+      (p .0, (p .1, (k, sym (length-take-le (r .length) l′ k))))
 
 -- two pieces
 pub both-put : (xs ys l : List ℕ) → length xs + length ys ≤ length l → {l′ l″ : List ℕ} {p n : ℕ} → Wrote 0 xs l l′ p → Wrote p ys l′ l″ n

@@ -1,4 +1,5 @@
--- `Writing`: pieces one after another; `Fitted`: a text that is measured; `Coming`: a loop that puts one; `Decimal`: digits.
+-- `Writing`: pieces one after another, and the dash; `Fitted`: a text that is measured; `Coming`: a loop of pieces;
+-- `Decimal`: digits.
 pub mod Writing
 pub mod Fitted
 pub mod Coming

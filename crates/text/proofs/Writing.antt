@@ -5,8 +5,8 @@ use Prim.Native.Nat.{ℕ, _+_, _≤_}
 use native.Mathlib.Omega.{arith}
 use borrow.Author.Needs.{needs}
 use borrow.Author.Tests.{eq-eqb, ne-eqb}
-use lib.ListN.{length, set, take, length-append}
-use lib.Seq.{length-take-le, take-length}
+use lib.ListN.{length, set, length-append}
+use lib.Seq.{take-length}
 use Rattle.octets.specs.Parts.{part, putAt}
 use Rattle.octets.proofs.Lists.{put-nil, put-put, put-sets, length-put}
 use Rattle.text.specs.Writing.{Room, orDash}
@@ -14,9 +14,6 @@ use Rattle.text.specs.Writing.{Room, orDash}
 -- xs was put at place `at` of l, which is l′ then, and r is the place after xs: the two promises of a function that puts text
 abbrev pub Wrote : ℕ → List ℕ → List ℕ → List ℕ → ℕ → Type 0
 Wrote at xs l l′ r = (r ≡ at + length xs) × (l′ ≡ putAt at xs l)
-
-pub room : {at : ℕ} {xs l : List ℕ} → at + length xs ≤ length l → Room at xs l
-room h = record { fits = h }
 
 pub room-both : (xs ys l : List ℕ) → length xs + length ys ≤ length l → Room 0 (xs ++ ys) l
 room-both xs ys l h = let e = length-append xs ys in record { fits = omega (arith, e) }
@@ -40,21 +37,6 @@ wrote-then at xs ys l a b h =
 
 pub wrote-length : (at : ℕ) (xs l : List ℕ) {l′ : List ℕ} {p : ℕ} → Wrote at xs l l′ p → at + length xs ≤ length l → length l′ ≡ length l
 wrote-length at xs l a h = rw (a .1) (length-put at xs l h)
-
--- what was put from the start on counts elements of the buffer: what `&text[..r]` asks
-pub wrote-counts : {at : ℕ} {xs l l′ : List ℕ} {r : ℕ} → Wrote at xs l l′ r → Room at xs l → (r ≤ length l′) × (r ≡ length (take r l′))
-wrote-counts {at} {xs} {l} {l′} {r} w m =
-    let e = wrote-length at xs l w (m .fits) in
-    let n = w .0 in
-    let h : r ≤ length l′ = omega (arith, e) in
-    (h, sym (length-take-le r l′ h))
-
--- at the front of a buffer the place after xs is its length
-pub front : (xs l : List ℕ) {l′ : List ℕ} {r : ℕ} → Wrote 0 xs l l′ r → (r ≡ length xs) × (l′ ≡ putAt 0 xs l)
-front xs l w = (let n = w .0 in omega arith, w .1)
-
-pub at-front : (xs l : List ℕ) {l′ : List ℕ} {r : ℕ} → (r ≡ length xs) × (l′ ≡ putAt 0 xs l) → Wrote 0 xs l l′ r
-at-front xs l w = (let n = w .0 in omega arith, w .1)
 
 -- two pieces, three, four: the room of each, and the buffer after all of them
 module _ {at : ℕ} (a b : List ℕ) {l : List ℕ} (r : Room at (a ++ b) l) where

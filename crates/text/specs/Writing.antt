@@ -1,4 +1,5 @@
--- A word of text, the room that a piece of text takes, and a text that is measured. Assumes nothing: these are definitions.
+-- A word of text, the room that a piece of text takes, and a text that is measured. Assumes nothing: these are
+-- definitions.
 use Prim.Native.Nat.{ℕ, _+_, _≤_}
 use mathlib.Core.Bool.{cond}
 use mathlib.Core.List.{List, [], _∷_}

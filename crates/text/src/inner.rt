@@ -1,4 +1,5 @@
-// A function that puts text asks for the room that it fills, which the crates above have measured, and answers the place after what it put. The others measure.
+// A function that puts text asks for the room that it fills, which the crates above have measured, and answers the
+// place after what it put. The others measure.
 ghost use mathlib.Core.Path.{_≡_};
 ghost use mathlib.Core.List.{[], _∷_};
 ghost use Prim.Native.Nat.{_+_, _-_, _≤_, _<_};

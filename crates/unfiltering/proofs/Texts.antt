@@ -17,7 +17,8 @@ use Rattle.text.proofs.Fitted.{fits, Put, fitted-short}
 use Rattle.lines.specs.Lines.{refusalLine, tooLong}
 use Rattle.unfiltering.specs.Unfiltering.{answered, textOf, unfilterText}
 
--- the text stands at the front of l′, if it fits into l, and zeros behind it; the second buffer is zero: the three promises of a function that prints
+-- the text stands at the front of l′, if it fits into l, and zeros behind it; the second buffer is zero: the three
+-- promises of a function that prints
 abbrev pub Holds : List ℕ → List ℕ → List ℕ → List ℕ → List ℕ → Written → Type 0
 Holds text l l′ m m′ r = (r ≡ written (fitted (length l) text)) × ((l′ ≡ filled (length l) (fitted (length l) text .text)) × (m′ ≡ secondAfter m))
 

@@ -45,8 +45,8 @@ fn put_long(first: &mut [u8], second: &mut [u8]) -> Written
     written
 }
 
-// Puts what `unfilter` prints of an input at the front of `first`, and answers how many bytes it has; 26 exactly if `first` is shorter.
-// The rest of `first`, and `second`, are zero then.
+// Puts what `unfilter` prints of an input at the front of `first`, and answers its length; 26 exactly if `first` is
+// shorter. The rest of `first`, and `second`, are zero then.
 pub fn print(input: &[u8], first: &mut [u8], second: &mut [u8]) -> Written
     ensures { λ r. ⌜ r ≡ written (printedBy (now (first .entry)) (now (second .entry)) (now (input .entry))) ⌝ }
     ensures { λ _. ⌜ now (first .exit) ≡ filled (length (now (first .entry))) (printedBy (now (first .entry)) (now (second .entry)) (now (input .entry)) .text) ⌝ }

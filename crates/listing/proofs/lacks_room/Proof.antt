@@ -1,4 +1,4 @@
--- With room for the listing of any file of that length these lines fit; else they are measured, the header's and the reads'.
+-- With room for the listing of any file of that length these lines fit; else they are measured.
 use borrow.Author.Needs.{needs}
 use Rattle.octets.proofs.AllBytes.{bytes-of}
 use Rattle.lines.specs.Lines.{headerLine}

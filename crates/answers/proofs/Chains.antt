@@ -1,4 +1,5 @@
--- A chain of tests met one test at a time, as code makes them: one that refuses ends the chain, one that accepts hands on. Assumes nothing.
+-- A chain of tests met one test at a time, as code makes them: one that refuses ends the chain, one that accepts hands
+-- on. Assumes nothing.
 use Prim.Native.Nat.{ℕ, _+_, _-_, _≤_, _<_}
 use mathlib.Core.Path.{_≡_, sym, ap, _∙_}
 use mathlib.Core.Bool.{Bool, true, false, not, _&&_, _||_}
@@ -120,8 +121,8 @@ module _ (m f k : ℕ) where
   pub not-over : f ≤ m → k ≤ m - f → ltb m (f + k) ≡ false
   not-over h l = le-ltb m (f + k) (omega arith)
 
--- For `search`, which finds what the code's tests gave: `onward` where each of them hands on, `refusal` where the last of them refuses.
--- Each test on the way takes one of the search's depth.
+-- For `search`, which finds what the code's tests gave: `onward` where each of them hands on, `refusal` where the last
+-- of them refuses. Each test on the way takes one of the search's depth.
 pub ruleset onward = (accepts, passes, passes-last, reaches, reaches-last, le-ltb, ne-eqb, same, told, not-told, and-told, told-not-under, told-same, not-under-told, same-told, or-neither)
 
 pub ruleset refusal = (onward, refuses, holds, holds-last, stops, stops-last, lt-ltb, eq-eqb, differ, told-under, told-differ, under-told, differ-told, or-first, or-second)

@@ -84,7 +84,8 @@ pub fn copy(s: &mut [u8], at: usize, source: &[u8], from: usize, n: usize)
     }
 }
 
-// Moves the 16,384 bytes from `from` on to `to`, however the two overlap. The compiler makes one call of memmove of the two copies, and no array.
+// Moves the 16,384 bytes from `from` on to `to`, however the two overlap. The compiler makes one call of memmove of the
+// two copies, and no array.
 fn move_block(s: &mut [u8], from: usize, to: usize)
     requires { ⌜ (from + 16384 ≤ length (now s)) × (to + 16384 ≤ length (now s)) ⌝ }
     ensures { λ _. ⌜ now (s .exit) ≡ putAt to (part from 16384 (now (s .entry))) (now (s .entry)) ⌝ }

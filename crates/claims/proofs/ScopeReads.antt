@@ -107,8 +107,8 @@ step-refused = stop-unmoved
 pub step-moved : (b : List ℕ) (s next : State) (v : ReadView) → step b s ≡ found v next → next .passed-reads ≡ s .passed-reads + 1
 step-moved b s next v e = ap (λ (x : State). x .passed-reads) (found-moved b s next v e)
 
--- the read that it found: the companion of a view's accessors accepts it, and where that accepts a view, whoever made it,
--- each accessor hands out its part whole (`sff_view`)
+-- the read that it found: the companion of a view's accessors accepts it, and where that accepts a view, whoever made
+-- it, each accessor hands out its part whole (`sff_view`)
 pub view-of-step : (b : List ℕ) (s : State) (v : ReadView) (next : State) → Bytes b → step b s ≡ found v next → viewTest b v ≡ Accepted
 view-of-step = found-accepted
 

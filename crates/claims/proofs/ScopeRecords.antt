@@ -1,4 +1,5 @@
--- Document 01's "Correction records" and "Order": what a record says, and the reasons as tests and in words. Assumes nothing.
+-- Document 01's "Correction records" and "Order": what a record says, and the reasons as tests and in words. Assumes
+-- nothing.
 use Prim.Native.Nat.{ℕ, _≤_}
 use mathlib.Core.Path.{_≡_}
 use mathlib.Core.Bool.{Bool, true, false, _&&_}

@@ -16,8 +16,9 @@ use Rattle.sff_correction.specs.Correct.{correctOutcome, correctBuffer}
 use Rattle.filter_format.specs.Undo.{making, undoLayer}
 use Rattle.filter_format.specs.Encode.{encode}
 
--- what a row says: a file is written so; these bytes are so many; the whole-file test answers so; the insert at a position goes from a base to a base and is so;
--- a record corrects a file of that length in a buffer with that outcome, and leaves the buffer so; the data are that block by a format and level, and the block is the data undone
+-- what a row says: a file is written so; these bytes are so many; the whole-file test answers so; the insert at a
+-- position goes from a base to a base and is so; a record corrects a file of that length in a buffer with that outcome,
+-- and leaves the buffer so; the data are that block by a format and level, and the block is the data undone
 pub data Case : Type 0 where
   written : File → List ℕ → Case
   sized : List ℕ → ℕ → Case
@@ -38,7 +39,8 @@ abbrev pub All : List Case → Type 0
 All [] = Unit {0}
 All (c ∷ cs) = Holds c × All cs
 
--- "File E: flows TACG, key T, one read r1, values 100 0 200 0, indexes 1 2 0, bases TCC, qualities 40 40 40, quality left 2"
+-- "File E: flows TACG, key T, one read r1, values 100 0 200 0, indexes 1 2 0, bases TCC, qualities 40 40 40, quality
+-- left 2"
 abbrev pub e : File
 e = record {
   flow-characters = 84 ∷ 65 ∷ 67 ∷ 71 ∷ [];
@@ -111,7 +113,8 @@ table =
     ∷ tested (set eBytes 73 4) (Refused 10 73) ∷ tested (set eBytes 72 0) (Refused 10 72)
     -- "base T at flow 3 gives 11; N is accepted"
     ∷ tested (set eBytes 77 84) (Refused 11 77) ∷ tested (set eBytes 77 78) Accepted
-    -- "rename r1 to 8 bytes keeps 88, to 9 gives 96, and 26 in a 95-byte buffer"; what lies behind the file is as it was
+    -- "rename r1 to 8 bytes keeps 88, to 9 gives 96, and 26 in a 95-byte buffer"; what lies behind the file is as it
+    -- was
     ∷ corrected eBytes 88 (toR1 (rename eight)) (done 88) eEight
     ∷ corrected (eBytes ++ replicate 12 7) 88 (toR1 (rename nine)) (done 96) (eNine ++ replicate 4 7)
     ∷ corrected (eBytes ++ replicate 7 7) 88 (toR1 (rename nine)) (record { answer = Refused 26 0; length = 88 }) (eBytes ++ replicate 7 7)

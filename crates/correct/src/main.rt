@@ -1,5 +1,5 @@
-// correct FILE RECORDS NEW-FILE: runs a list of correction records on a file of at most 65,536 bytes, writes the corrected file under a new name and prints
-// the answer.
+// correct FILE RECORDS NEW-FILE: runs a list of correction records on a file of at most 65,536 bytes, writes the
+// corrected file under a new name and prints the answer.
 use libc::STDERR_FILENO;
 use loading::Loaded;
 use loading::load_argument;
@@ -25,7 +25,8 @@ fn save(i: usize, bytes: &[u8]) -> bool {
     false
 }
 
-// Prints the answer of a run, once the new file that it asks for is there: no answer is printed of a file that could not be written.
+// Prints the answer of a run, once the new file that it asks for is there: no answer is printed of a file that could
+// not be written.
 fn deliver(outcome: ListOutcome, buffer: &[u8]) {
     if report::is_written(outcome) {
         if !save(3, stretch(buffer, 0, outcome.length)) {

@@ -1,4 +1,5 @@
-// What `correct` prints for each file and list that the arguments name in pairs, and the listing of the new file: many stored runs in one.
+// What `correct` prints for each file and list that the arguments name in pairs, and the listing of the new file: many
+// stored runs in one.
 use libc::STDOUT_FILENO;
 use loading::Loaded;
 use loading::load_argument;

@@ -13,7 +13,8 @@ use Rattle.filter_format.specs.declared.Filtered.{Filtered}
 use Rattle.filter_format.specs.Undo.{Result, making, refusing, filtered, secondAfter}
 use Rattle.filters.specs.Sides.{after}
 
--- the answer and both buffers after a call, where `is-first` says whether `here` is the caller's first: the three promises of a function that undoes
+-- the answer and both buffers after a call, where `is-first` says whether `here` is the caller's first: the three
+-- promises of a function that undoes
 abbrev pub Undid : Result → Bool → List ℕ → List ℕ → List ℕ → List ℕ → Filtered → Type 0
 Undid result is-first here here' there there' r = (r ≡ filtered result) × ((here' ≡ after is-first result here) × (there' ≡ after (not is-first) result there))
 

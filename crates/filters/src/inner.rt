@@ -1,5 +1,5 @@
-// No entry points: the blocks here stand in one of the two lent buffers. `choose` and `layer` call each other; at each layer the buffers change places and
-// one filter less may be opened.
+// No entry points: the blocks here stand in one of the two lent buffers. `choose` and `layer` call each other; at each
+// layer the buffers change places and one filter less may be opened.
 ghost use mathlib.Core.Path.{_≡_};
 ghost use mathlib.Core.Bool.{not};
 ghost use Prim.Native.Nat.{_-_, _<_, _≤_};
@@ -102,7 +102,8 @@ fn hand_over(here: &mut [u8], there: &mut [u8], n: usize) -> Filtered
     }
 }
 
-// The block in the first `len` bytes of `here`, by its format. `is_first` says whether `here` is the caller's first buffer.
+// The block in the first `len` bytes of `here`, by its format. `is_first` says whether `here` is the caller's first
+// buffer.
 pub(crate) fn choose(
     here: &mut [u8],
     there: &mut [u8],

@@ -1,4 +1,5 @@
--- The invariants of a loop that puts the list xs, of length n, into a slice at `at`, one store a turn: from its front (`Up`) or from its end (`Down`). Assumes nothing.
+-- The invariants of a loop that puts the list xs, of length n, into a slice at `at`, one store a turn: from its front
+-- (`Up`) or from its end (`Down`). Assumes nothing.
 use mathlib.Core.Path.{_≡_, refl, sym, ap, _∙_}
 use mathlib.Core.List.{List, _++_}
 use Prim.Native.Nat.{ℕ, suc, _+_, _-_, _≤_, _<_}

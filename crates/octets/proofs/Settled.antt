@@ -1,4 +1,5 @@
--- A file at the front of a buffer: a write within it, a splice of it, and a second file over the first. Assumes nothing.
+-- A file at the front of a buffer: a write within it, a splice of it, and a second file over the first. Assumes
+-- nothing.
 use Prim.Native.Nat.{ℕ, zero, suc, _+_, _-_, _≤_, max}
 use mathlib.Core.Path.{_≡_, sym, ap, _∙_}
 use mathlib.Core.List.{List, _++_, append-assoc, append-nil}

@@ -1,4 +1,5 @@
--- `Stands p xs b`: the bytes xs stand at place p of b. A layout stands somewhere exactly if its pieces stand one after another. Assumes nothing.
+-- `Stands p xs b`: the bytes xs stand at place p of b. A layout stands somewhere exactly if its pieces stand one after
+-- another. Assumes nothing.
 use Prim.Native.Nat.{ℕ, zero, suc, _+_, _-_, _*_, _^_, _≤_, _<_, min}
 use mathlib.Core.Path.{_≡_, refl, sym, ap, _∙_}
 use mathlib.Core.Bool.{Bool, true, false}
@@ -107,7 +108,8 @@ stands-filled p q n m xs b e f h s = (
   stand-zeros q m b (rw f (stands-right p q xs (replicate (n - length xs) 0) b e h s)),
 )
 
--- a name in a field of `wide` bytes at `at`, zeros after it: any front of the field that holds the name is the name and zeros
+-- a name in a field of `wide` bytes at `at`, zeros after it: any front of the field that holds the name is the name and
+-- zeros
 pub field-filled : (at n wide w : ℕ) (r : List ℕ) → at + wide ≤ length r → fails isZero (part (at + n) (wide - n) r) ≡ false → n ≤ w → w ≤ wide → part at w r ≡ filled w (part at n r)
 field-filled at n wide w r h e i j =
     let l : length (part at n r) ≡ n = length-part at n r (omega arith) in

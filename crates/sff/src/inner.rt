@@ -1,4 +1,5 @@
-// What a boundary asks, and the way from one to the next, for this crate and those above it, which have tested the header and know that the place lies in the file: hence each `requires`.
+// What a boundary asks, and the way from one to the next, for this crate and those above it, which have tested the
+// header and know that the place lies in the file: hence each `requires`.
 ghost use mathlib.Core.Path.{_≡_};
 ghost use Prim.Native.Nat.{_+_, _≤_};
 ghost use lib.ListN.{length};

@@ -1,4 +1,5 @@
-// For the crates above. Those that test clips know that a read has fewer than 2^32 bases and that its place leaves room for its fields: hence each `requires`.
+// For the crates above. Those that test clips know that a read has fewer than 2^32 bases and that its place leaves room
+// for its fields: hence each `requires`.
 ghost use mathlib.Core.Path.{_≡_};
 ghost use Prim.Native.Nat.{_+_, _<_};
 ghost use Rattle.sff_format.specs.Rules.{leftLimit, rightLimit};

@@ -1,4 +1,5 @@
--- What a correction for which no reason holds makes of a file: it keeps the rules, it fits, and the place of its read stays. Assumes nothing.
+-- What a correction for which no reason holds makes of a file: it keeps the rules, it fits, and the place of its read
+-- stays. Assumes nothing.
 use Prim.Native.Nat.{ℕ, _≤_, _<_}
 use mathlib.Core.Path.{_≡_, refl, sym, ap, _∙_}
 use mathlib.Core.Bool.{Bool, true, false, not, _&&_, true≢false}

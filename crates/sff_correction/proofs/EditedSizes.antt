@@ -1,4 +1,5 @@
--- How long a file is with the read of a correction changed or left out, whether it has an index or none. Assumes nothing.
+-- How long a file is with the read of a correction changed or left out, whether it has an index or none. Assumes
+-- nothing.
 use Prim.Native.Nat.{ℕ, _+_, _≤_, _<_}
 use mathlib.Core.Path.{_≡_, refl, sym, ap, _∙_}
 use mathlib.Core.List.{List, [], _∷_, append-nil}

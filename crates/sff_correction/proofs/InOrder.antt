@@ -1,4 +1,5 @@
--- A correction is answered for the first reason that holds in document 01's order; and with one of its numbers. Assumes nothing.
+-- A correction is answered for the first reason that holds in document 01's order; and with one of its numbers. Assumes
+-- nothing.
 use Prim.Native.Nat.{ℕ, zero, suc, _+_, _-_, _≤_, _<_}
 use mathlib.Core.Path.{_≡_, refl, sym, ap, _∙_}
 use mathlib.Core.Bool.{Bool, true, false, not, _&&_, _||_, true≢false}

@@ -1,4 +1,5 @@
--- One claim over every list of whole records on any accepted file: the whole answer and the whole buffer, over the model of the file. Assumes nothing.
+-- One claim over every list of whole records on any accepted file: the whole answer and the whole buffer, over the
+-- model of the file. Assumes nothing.
 use Prim.Native.Nat.{ℕ, zero, suc, _+_, _-_, _*_, _/_, _%_, _≤_, _<_}
 use mathlib.Core.Path.{_≡_, refl, sym, ap, _∙_}
 use mathlib.Core.Bool.{Bool, true, false, cond, not}
@@ -106,8 +107,9 @@ turns-are (suc m) k b l f all y e s = go (reasonFor (length b) k l f) refl (turn
     go Accepted x ih = step-on m k b l f s x ∙ ih (held-more k b l f y s x)
     go (Refused n p) x ih = step-stop m k b l f s all n p (omega arith) x
 
--- of the first m records of a list on an accepted file, those before the first for which a reason holds in its turn are carried out, and no others. The count is how many; the answer
--- is that reason, or none; the file is written afresh as these records have left its reads, then zeros up to the greatest length that it had, and the rest as it was
+-- of the first m records of a list on an accepted file, those before the first for which a reason holds in its turn are
+-- carried out, and no others. The count is how many; the answer is that reason, or none; the file is written afresh as
+-- these records have left its reads, then zeros up to the greatest length that it had, and the rest as it was
 module _ (b : List ℕ) (len : ℕ) (l : List ℕ) (y : Bytes b) (z : Bytes l) (h : len ≤ length b) (e : fileTest (take len b) ≡ Accepted) where
   abbrev start : File
   start = parse (take len b)
@@ -130,7 +132,8 @@ module _ (b : List ℕ) (len : ℕ) (l : List ℕ) (y : Bytes b) (z : Bytes l) (
   pub list-claim : length l % 96 ≡ 0 → runList b len l ≡ runOn (length l / 96) (firstRefused (length l / 96) 0 (length b) l start) b l start
   list-claim w = list-run b len l w ∙ turns-claim (length l / 96)
 
--- `firstRefused` is what its name says: it is at most the end, no reason holds before it, and one holds at it unless it is the end
+-- `firstRefused` is what its name says: it is at most the end, no reason holds before it, and one holds at it unless it
+-- is the end
 module _ (room : ℕ) (l : List ℕ) (f : File) where
   pub first-most : (m k : ℕ) → firstRefused m k room l f ≤ k + m
   unfolding firstRefused acceptedOr
@@ -203,7 +206,8 @@ module _ (b : List ℕ) (len : ℕ) (l : List ℕ) where
           let x = eqb-false (length l) 0 d in
           first-stop (length l / 96 - 1) (omega (arith, w, x)) w n p c
 
--- the number of records that are carried out on an accepted file, by the reasons in words of the model: none holds of a record before it, and one holds of the record at it
+-- the number of records that are carried out on an accepted file, by the reasons in words of the model: none holds of a
+-- record before it, and one holds of the record at it
 module _ (room : ℕ) (l : List ℕ) (f : File) (all : ℕ) (y : Bytes l) where
   abbrev stop : ℕ
   stop = firstRefused all 0 room l f

@@ -16,7 +16,8 @@ use Rattle.sff_correction.specs.RecordLayout.{parseRecord}
 use Rattle.sff_correction.specs.Edit.{edited}
 use Rattle.sff_correction.specs.Reasons.{reasons}
 
--- "Order, place 0 for the record's own: 14; 20 ..; the file's refusal; 21 ..; 22 ..; 25 ..; 23 ..; 24 ..; 26 no room. None is given otherwise."
+-- "Order, place 0 for the record's own: 14; 20 ..; the file's refusal; 21 ..; 22 ..; 25 ..; 23 ..; 24 ..; 26 no room.
+-- None is given otherwise."
 unfoldable pub correctTest : List ℕ → ℕ → List ℕ → Answer
 correctTest buffer len r =
     when (ltb (length buffer) len) 14 0
@@ -32,7 +33,8 @@ corrected buffer len r = layout (edited (parseRecord r) (parse (take len buffer)
 unfoldable pub correctOutcome : List ℕ → ℕ → List ℕ → Outcome
 correctOutcome buffer len r = outcome (correctTest buffer len r) len (length (corrected buffer len r))
 
--- the file `new` over one of length `len`: "If the file shrinks, bytes from new to old length become 0; all beyond the longer of the two keep their contents"
+-- the file `new` over one of length `len`: "If the file shrinks, bytes from new to old length become 0; all beyond the
+-- longer of the two keep their contents"
 abbrev pub over : List ℕ → ℕ → List ℕ → List ℕ
 over new len buffer = settled new (max len (length new)) buffer
 

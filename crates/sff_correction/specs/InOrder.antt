@@ -1,4 +1,5 @@
--- Document 01's reasons to refuse a correction, in its order and in words of the model. Assumes nothing: these are definitions.
+-- Document 01's reasons to refuse a correction, in its order and in words of the model. Assumes nothing: these are
+-- definitions.
 use Prim.Native.Nat.{ℕ, _≤_, _<_}
 use mathlib.Core.Path.{_≡_}
 use mathlib.Core.List.{List, [], _∷_}
@@ -69,7 +70,8 @@ ownReasons room c f =
     ∷ record { holds = Present c f × (room < length (layout (edited c f))); answer = Refused 26 0 }
     ∷ []
 
--- "Order, place 0 for the record's own: 14; 20 record malformed or not 96 bytes; the file's refusal", and then these. 14 is, as for an append, "length stated above the buffer"
+-- "Order, place 0 for the record's own: 14; 20 record malformed or not 96 bytes; the file's refusal", and then these.
+-- 14 is, as for an append, "length stated above the buffer"
 abbrev pub reasonsAgainst : List ℕ → ℕ → List ℕ → List Reason
 reasonsAgainst buffer len r =
     -- 14

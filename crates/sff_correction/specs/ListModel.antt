@@ -52,7 +52,8 @@ greatest (suc n) cs f = max (greatest n cs f) (length (layout (fileAfter (suc n)
 unfoldable pub lastTried : ℕ → ℕ → ℕ → List ℕ → File → Answer
 lastTried all n room l f = cond (ltb n all) (reasonFor room n l f) Accepted
 
--- the whole answer and the whole buffer, where n of `all` records were carried out: the file written afresh, zeros up to the greatest length, the rest as it was
+-- the whole answer and the whole buffer, where n of `all` records were carried out: the file written afresh, zeros up
+-- to the greatest length, the rest as it was
 abbrev pub runOn : ℕ → ℕ → List ℕ → List ℕ → File → Run
 runOn all n buffer l f =
     let cs = correctionAt l in
@@ -63,8 +64,9 @@ runOn all n buffer l f =
 unfoldable pub firstTest : List ℕ → ℕ → List ℕ → Answer
 firstTest buffer len l = when (ltb (length buffer) len) 14 0 then recordTest (recordAt 0 l) then fileTest (take len buffer)
 
--- any list on any buffer with any stated length. "A list's length is a multiple of 96, else 20 before all else, with nothing done"; "An empty list is carried out with
--- count 0, the file untested and the length as given"; one that `firstTest` refuses does nothing; of any other the records before the first for which a reason holds are carried out
+-- any list on any buffer with any stated length. "A list's length is a multiple of 96, else 20 before all else, with
+-- nothing done"; "An empty list is carried out with count 0, the file untested and the length as given"; one that
+-- `firstTest` refuses does nothing; of any other the records before the first for which a reason holds are carried out
 unfoldable pub listAfresh : List ℕ → ℕ → List ℕ → Run
 listAfresh buffer len l =
     let all = length l / 96 in

@@ -1,4 +1,5 @@
--- The reasons not to carry out a correction, on the file that it is for: one test each. Assumes nothing: these are definitions.
+-- The reasons not to carry out a correction, on the file that it is for: one test each. Assumes nothing: these are
+-- definitions.
 use Prim.Native.Nat.{ℕ}
 use mathlib.Core.Bool.{Bool, true, false, not, _&&_, _||_}
 use mathlib.Core.List.{List, [], _∷_}

@@ -11,8 +11,8 @@ use Rattle.answers.specs.declared.Answer.{Answer}
 use Rattle.answers.specs.declared.Answer.the-variants.{Accepted}
 use Rattle.answers.specs.Answer.{when, _then_}
 
--- "kind (0: 1 clips, 2 rename, 3 remove), old name length (1), new name length (2), zero (3), position from 0 (4 to 7), four new clips (8 to 15, file
--- order), old name (16 to 55), new name (56 to 95)"
+-- "kind (0: 1 clips, 2 rename, 3 remove), old name length (1), new name length (2), zero (3), position from 0 (4 to 7),
+-- four new clips (8 to 15, file order), old name (16 to 55), new name (56 to 95)"
 abbrev pub kind : List ℕ → ℕ
 kind r = getD r 0 0
 

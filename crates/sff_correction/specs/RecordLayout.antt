@@ -29,7 +29,8 @@ clipsOf (clips a b c d) = clipFields a b c d
 clipsOf (rename name) = clipFields 0 0 0 0
 clipsOf remove = clipFields 0 0 0 0
 
--- "kind (0: ..), old name length (1), new name length (2), zero (3), position from 0 (4 to 7), four new clips (8 to 15, file order)"
+-- "kind (0: ..), old name length (1), new name length (2), zero (3), position from 0 (4 to 7), four new clips (8 to 15,
+-- file order)"
 unfoldable pub recordFields : Correction → List (ℕ × ℕ)
 recordFields c = (1, kindOf (c .change)) ∷ (1, length (c .old-name)) ∷ (1, length (nameOf (c .change))) ∷ (1, 0) ∷ (4, c .position) ∷ clipsOf (c .change)
 

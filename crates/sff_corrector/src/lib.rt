@@ -1,4 +1,5 @@
-// Corrections of a file in place: by one record, and by a list of them. All reasons to refuse a record are judged before it changes a byte.
+// Corrections of a file in place: by one record, and by a list of them. All reasons to refuse a record are judged
+// before it changes a byte.
 ghost use mathlib.Core.Path.{_≡_};
 ghost use Prim.Native.Nat.{_+_, _-_, _*_, _≤_, _<_};
 ghost use lib.ListN.{length};
@@ -140,8 +141,8 @@ fn run(buffer: &mut [u8], len: usize, list: &[u8], n: usize, first: Mark) -> Lis
     }
 }
 
-// Corrects the file that fills the first `file_length` bytes of the buffer by one record. Answers the file's length afterwards; refused, the length that was
-// given, with the buffer as it was.
+// Corrects the file that fills the first `file_length` bytes of the buffer by one record. Answers the file's length
+// afterwards; refused, the length that was given, with the buffer as it was.
 pub fn correct(buffer: &mut [u8], file_length: usize, record: &[u8]) -> Outcome
     ensures { λ v. ⌜ v ≡ correctOutcome (now (buffer .entry)) «file_length» (now («record» .entry)) ⌝ }
     ensures { λ _. ⌜ now (buffer .exit) ≡ correctBuffer (now (buffer .entry)) «file_length» (now («record» .entry)) ⌝ }
@@ -159,7 +160,8 @@ pub fn correct(buffer: &mut [u8], file_length: usize, record: &[u8]) -> Outcome
     }
 }
 
-// Corrects the file by the records of a list in turn, up to the first that is refused. Answers how many were carried out, and what the last record tried was answered.
+// Corrects the file by the records of a list in turn, up to the first that is refused. Answers how many were carried
+// out, and what the last record tried was answered.
 pub fn correct_list(buffer: &mut [u8], file_length: usize, list: &[u8]) -> ListOutcome
     ensures { λ v. ⌜ v ≡ runList (now (buffer .entry)) «file_length» (now (list .entry)) .outcome ⌝ }
     ensures { λ _. ⌜ now (buffer .exit) ≡ runList (now (buffer .entry)) «file_length» (now (list .entry)) .buffer ⌝ }

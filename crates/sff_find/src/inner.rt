@@ -55,7 +55,8 @@ pub struct Mark {
     pub place: usize,
 }
 
-// Where the read at a position of an accepted file starts, found from a read whose place is known, if that is not a later one.
+// Where the read at a position of an accepted file starts, found from a read whose place is known, if that is not a
+// later one.
 pub fn find_on(s: &[u8], from: Mark, position: usize) -> usize
     requires { ⌜ fileTest (now s) ≡ Accepted ⌝ }
     requires { ⌜ position < readCount (now s) ⌝ }

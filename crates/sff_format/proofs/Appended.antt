@@ -1,4 +1,5 @@
--- Another index or other reads change numbers of the header alone; a read appended is its sections at the end, and the count at 20. Assumes nothing.
+-- Another index or other reads change numbers of the header alone; a read appended is its sections at the end, and the
+-- count at 20. Assumes nothing.
 use Prim.Native.Nat.{ℕ, suc, _+_, _-_}
 use mathlib.Core.Path.{_≡_, refl, sym, ap, _∙_}
 use mathlib.Core.List.{List, [], _∷_, _++_, append-assoc, append-nil}

@@ -35,7 +35,8 @@ module _ (characters : List ℕ) (r : Read) where
       let i = h .inside in
       rw (h .characters-same, h .holds) at (valid-at (flowCharacters (h .file)) (parse (h .file) .reads) (h .position) (omega (arith, n, i)) (v .reads-good))
 
--- and one that keeps the rules of an accepted file's flow characters is held by an accepted file with these: the one written with that read alone
+-- and one that keeps the rules of an accepted file's flow characters is held by an accepted file with these: the one
+-- written with that read alone
 module _ (b : List ℕ) (y : Bytes b) (e : fileTest b ≡ Accepted) (r : Read) (g : ValidRead (flowCharacters b) r) where
   alone : File
   alone = plain (flowCharacters b) (parse b .key) (r ∷ [])
@@ -61,14 +62,16 @@ module _ (b : List ℕ) (y : Bytes b) (e : fileTest b ≡ Accepted) (r : Read) (
         holds = ap (λ (g : File). readAt g 0) (file-back f alone-valid);
       }
 
--- A read's own reasons to be refused (30, 5, 6, 9, 10, 11) hold exactly if no accepted file with these flow characters could hold it.
+-- A read's own reasons to be refused (30, 5, 6, 9, 10, 11) hold exactly if no accepted file with these flow characters
+-- could hold it.
 pub given-exactly : (b : List ℕ) (r : Read) → Bytes b → fileTest b ≡ Accepted → Lent r → (givenTest (flowCharacters b) r ≡ Accepted) ↔ Holder (flowCharacters b) r
 given-exactly b r y e t = (
   (λ g. valid-holder b y e r (given-valid (flowCharacters b) r t g)),
   (λ k. valid-given (flowCharacters b) r (holder-valid (flowCharacters b) r k)),
 )
 
--- In a buffer with room, after a file with no index and fewer reads than the count can say, an append is carried out exactly if some such file could hold the read.
+-- In a buffer with room, after a file with no index and fewer reads than the count can say, an append is carried out
+-- exactly if some such file could hold the read.
 module _ (buffer : List ℕ) (len : ℕ) (r : Read) (y : Bytes buffer) (t : Lent r) (h : len ≤ length buffer) (e : fileTest (take len buffer) ≡ Accepted)
     (i : declared (indexOffset (take len buffer)) (indexLength (take len buffer)) ≡ false) (n : readCount (take len buffer) < 4294967295)
     (m : len + length (layoutRead r) ≤ length buffer) where

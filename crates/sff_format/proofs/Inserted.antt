@@ -1,4 +1,5 @@
--- The insert lies within the read, so it is as long in every list with an entry for each base; and a view's insert is the read's. Assumes nothing.
+-- The insert lies within the read, so it is as long in every list with an entry for each base; and a view's insert is
+-- the read's. Assumes nothing.
 use Prim.Native.Nat.{ℕ, _+_, _≤_}
 use mathlib.Core.Bool.{Bool, true, false, cond}
 use mathlib.Core.Path.{_≡_, refl, sym, ap, _∙_}

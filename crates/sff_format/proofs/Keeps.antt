@@ -1,4 +1,5 @@
--- Lists of reads that keep the rules, a file with no index, and a file that still keeps the rules without any set of its reads, or with another read in the place of one. Assumes nothing.
+-- Lists of reads that keep the rules, a file with no index, and a file that still keeps the rules without any set of
+-- its reads, or with another read in the place of one. Assumes nothing.
 use Prim.Native.Nat.{ℕ, zero, suc, _+_, _≤_, _<_}
 use mathlib.Core.Path.{_≡_, refl, sym, ap, subst, _∙_}
 use mathlib.Core.Bool.{true, false, false≢true}

@@ -2,7 +2,8 @@
 pub mod Bases
 pub mod Loops
 pub mod Sizes
--- The header, a read, an index, a boundary: accepted, it is the layout of what it says; laid out, it is accepted and read back.
+-- The header, a read, an index, a boundary: accepted, it is the layout of what it says; laid out, it is accepted and
+-- read back.
 pub mod HeaderLaws
 pub mod ReadLaid
 pub mod ReadTaken
@@ -15,7 +16,8 @@ pub mod Written
 pub mod Format
 -- A file that keeps the rules with another read in the place of one, and without any set of its reads.
 pub mod Keeps
--- A file at a read; what is handed out of a read, and its insert; a read by its position; reading on; a walk over the reads.
+-- A file at a read; what is handed out of a read, and its insert; a read by its position; reading on; a walk over the
+-- reads.
 pub mod Split
 pub mod Places
 pub mod Views
@@ -24,7 +26,8 @@ pub mod Positions
 pub mod Steps
 pub mod ViewTests
 pub mod Walks
--- Writing: a read appended, one that is lent to be written, the writers one after another, and what they leave read back.
+-- Writing: a read appended, one that is lent to be written, the writers one after another, and what they leave read
+-- back.
 pub mod Appended
 pub mod Given
 pub mod Appends

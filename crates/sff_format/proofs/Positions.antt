@@ -1,4 +1,5 @@
--- A read that is chosen by its position: it is accepted, and its insert is the read's, within its bases. Assumes nothing.
+-- A read that is chosen by its position: it is accepted, and its insert is the read's, within its bases. Assumes
+-- nothing.
 use Prim.Native.Nat.{ℕ, zero, suc, _+_, _-_, _*_, _≤_, _<_}
 use mathlib.Core.Path.{_≡_, refl, sym, _∙_}
 use mathlib.Core.Bool.{Bool}

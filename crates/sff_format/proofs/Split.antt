@@ -1,5 +1,5 @@
--- A file splits at each read into what stands before it, its sections and what stands after; its place is a sum of sizes, and front and back stay where another read comes
--- in its place. Assumes nothing.
+-- A file splits at each read into what stands before it, its sections and what stands after; its place is a sum of
+-- sizes, and front and back stay where another read comes in its place. Assumes nothing.
 use Prim.Native.Nat.{ℕ, suc, _+_, _-_, _≤_, _<_}
 use mathlib.Core.Path.{_≡_, refl, sym, ap, _∙_}
 use mathlib.Core.Bool.{Bool, true, false, cond}

@@ -1,4 +1,5 @@
--- A walk over the reads of an accepted file: how it starts, that a read begins where it stands, how it goes on, and how it ends. Assumes nothing.
+-- A walk over the reads of an accepted file: how it starts, that a read begins where it stands, how it goes on, and how
+-- it ends. Assumes nothing.
 use Prim.Native.Nat.{ℕ, zero, suc, _+_, _-_, _≤_, _<_}
 use mathlib.Core.Path.{_≡_, refl, sym, ap, _∙_}
 use mathlib.Core.Bool.{Bool, true, false, true≢false, _&&_, _||_, or-true}

@@ -1,4 +1,5 @@
--- A new file and an append for each read leave the file written afresh, and are carried out exactly if it keeps the rules and the buffer holds it. Assumes nothing.
+-- A new file and an append for each read leave the file written afresh, and are carried out exactly if it keeps the
+-- rules and the buffer holds it. Assumes nothing.
 use Prim.Native.Nat.{ℕ, _+_, _≤_, _<_}
 use mathlib.Core.Path.{_≡_, refl, sym, ap, _∙_}
 use mathlib.Core.Bool.{false, _||_}

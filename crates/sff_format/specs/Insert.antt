@@ -1,4 +1,5 @@
--- "Insert" of document 01: its first and last base, and the stretch between them. Assumes nothing: these are definitions.
+-- "Insert" of document 01: its first and last base, and the stretch between them. Assumes nothing: these are
+-- definitions.
 use Prim.Native.Nat.{ℕ, suc, _-_, max, min}
 use mathlib.Core.Bool.{cond}
 use mathlib.Core.List.{List}

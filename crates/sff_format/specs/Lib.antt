@@ -1,4 +1,6 @@
--- In document 01's order: the rules; the model of a file and its layout; what a file may say; the tests; what an accepted file says; places; a walk over the reads; the insert; a read in numbers; reading on; a read by its position; writing; the numbers that each call may answer with.
+-- In document 01's order: the rules; the model of a file and its layout; what a file may say; the tests; what an
+-- accepted file says; places; a walk over the reads; the insert; a read in numbers; reading on; a read by its position;
+-- writing; the numbers that each call may answer with.
 pub mod Rules
 pub mod Model
 pub mod Valid

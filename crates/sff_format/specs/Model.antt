@@ -6,7 +6,8 @@ use Rattle.octets.specs.Parts.{up8, filled, padded, insertAt}
 use Rattle.octets.specs.Numbers.{fields, words}
 use Rattle.sff_format.specs.Rules.{indexSize}
 
--- a read, as its two sections hold it: its name; the four clips; "flow values"; "flow index bytes", which "are increments"; "bases"; "qualities"
+-- a read, as its two sections hold it: its name; the four clips; "flow values"; "flow index bytes", which "are
+-- increments"; "bases"; "qualities"
 pub record Read : Type 0 where
   pub name : List ℕ
   pub quality-left : ℕ
@@ -34,8 +35,9 @@ pub record File : Type 0 where
 abbrev pub noIndex : Index
 noIndex = record { offset = 0; bytes = [] }
 
--- "Common header: magic at 0 (2E 73 66 66), version at 4 (0 0 0 1), index offset at 8 (8 bytes), index length at 16 (4), reads at 20 (4),
--- header length at 24 (2), key length K at 26 (2), flows F at 28 (2), format code at 30 (1, must be 1)"
+-- "Common header: magic at 0 (2E 73 66 66), version at 4 (0 0 0 1), index offset at 8 (8 bytes), index length at 16
+-- (4), reads at 20 (4), header length at 24 (2), key length K at 26 (2), flows F at 28 (2), format code at 30 (1, must
+-- be 1)"
 unfoldable pub headerFields : File → List (ℕ × ℕ)
 headerFields f =
     (4, 0x2E736666) ∷ (4, 1) ∷ (8, f .index .offset) ∷ (4, length (f .index .bytes)) ∷ (4, length (f .reads))
@@ -45,8 +47,8 @@ headerFields f =
 unfoldable pub layoutHeader : File → List ℕ
 layoutHeader f = padded (fields (headerFields f) ++ f .flow-characters ++ f .key)
 
--- "Each read has a header section: its length (2), name length L (2), bases N (4), quality left, quality right, adapter left, adapter
--- right (2 each, in that order), name, zero padding to up8(16+L)"
+-- "Each read has a header section: its length (2), name length L (2), bases N (4), quality left, quality right, adapter
+-- left, adapter right (2 each, in that order), name, zero padding to up8(16+L)"
 unfoldable pub readFields : Read → List (ℕ × ℕ)
 readFields r =
     (2, up8 (16 + length (r .name))) ∷ (2, length (r .name)) ∷ (4, length (r .bases))
@@ -71,8 +73,8 @@ layoutReads (r ∷ rs) = layoutRead r ++ layoutReads rs
 unfoldable pub layoutIndex : Index → List ℕ
 layoutIndex x = filled (indexSize (length (x .bytes))) (x .bytes)
 
--- "Writing afresh .. lays out, as above, a header from flow and key characters, the count being the number of reads, then the sections of
--- a list of reads in order. An index stands at its offset"
+-- "Writing afresh .. lays out, as above, a header from flow and key characters, the count being the number of reads,
+-- then the sections of a list of reads in order. An index stands at its offset"
 unfoldable pub layout : File → List ℕ
 layout f = insertAt (f .index .offset) (layoutIndex (f .index)) (layoutHeader f ++ layoutReads (f .reads))
 

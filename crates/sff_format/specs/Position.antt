@@ -1,4 +1,5 @@
--- A read that is chosen by its position from 0: the test of the position, and its insert. Assumes nothing: these are definitions.
+-- A read that is chosen by its position from 0: the test of the position, and its insert. Assumes nothing: these are
+-- definitions.
 use Prim.Native.Nat.{ℕ}
 use mathlib.Core.Bool.{not}
 use mathlib.Core.List.{List, []}

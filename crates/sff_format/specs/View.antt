@@ -1,4 +1,5 @@
--- What is said of a read in numbers: its place, where its contents lie, and its clips. Assumes nothing: these are definitions.
+-- What is said of a read in numbers: its place, where its contents lie, and its clips. Assumes nothing: these are
+-- definitions.
 use Prim.Native.Nat.{ℕ, _+_, _*_, _/_}
 use mathlib.Core.Bool.{Bool, _&&_}
 use mathlib.Core.List.{List}
@@ -50,7 +51,8 @@ viewRead b v = record {
   qualities = bytesIn b (v .qualities);
 }
 
--- the first and the last base of its insert, the stretch between them, and the insert of a list with one entry for each base
+-- the first and the last base of its insert, the stretch between them, and the insert of a list with one entry for each
+-- base
 abbrev pub viewFirst : ReadView → ℕ
 viewFirst v = firstBase (v .«quality_left») (v .«adapter_left»)
 

@@ -1,4 +1,5 @@
--- Fields, lists and padding that are put one after another are one section put: s is what a buffer was, s₁ what it is after the first. Assumes nothing.
+-- Fields, lists and padding that are put one after another are one section put: s is what a buffer was, s₁ what it is
+-- after the first. Assumes nothing.
 use Prim.Native.Nat.{ℕ, _+_, _-_, _*_, _≤_}
 use mathlib.Core.Path.{_≡_, refl, sym, ap, _∙_}
 use mathlib.Core.List.{List, [], _∷_, _++_}

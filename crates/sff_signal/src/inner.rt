@@ -1,4 +1,5 @@
-// The numbers of a summary, for this crate and those above it, which know that the values lie in the file: hence each `requires`.
+// The numbers of a summary, for this crate and those above it, which know that the values lie in the file: hence each
+// `requires`.
 ghost use mathlib.Core.Path.{_≡_};
 ghost use Prim.Native.Nat.{_+_, _*_, _≤_, _<_};
 ghost use lib.ListN.{length};

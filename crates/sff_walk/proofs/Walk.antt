@@ -1,4 +1,5 @@
--- What each turn of the loops over increments and bases shows: k is a base position, f the flow position before it, x the one that its increment leads to. Assumes nothing.
+-- What each turn of the loops over increments and bases shows: k is a base position, f the flow position before it, x
+-- the one that its increment leads to. Assumes nothing.
 use Prim.Native.Nat.{ℕ, suc, _+_, _-_, _≤_, _<_}
 use mathlib.Core.Path.{_≡_, refl, sym, ap, _∙_}
 use mathlib.Core.Bool.{Bool, true, false, not, _&&_}
@@ -63,7 +64,8 @@ pub matched-start : (characters xs ys : List ℕ) → length xs ≡ length ys �
 matched-start characters xs ys h =
     record { counts = h; walked = walked-start (length characters) 0 1 xs (omega arith) (omega arith) (omega arith); calls-is = omega arith }
 
--- Where the pass has stopped: `callRun` defines the place, and x is the flow position of the base there, if there is one.
+-- Where the pass has stopped: `callRun` defines the place, and x is the flow position of the base there, if there is
+-- one.
 pub record Stopped (characters xs ys : List ℕ) (k f x stop : ℕ) : Type 0 where
   pub counts : length xs ≡ length ys
   pub walked : Walked (length characters) 0 1 xs k f

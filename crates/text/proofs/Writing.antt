@@ -11,7 +11,8 @@ use Rattle.octets.specs.Parts.{part, putAt}
 use Rattle.octets.proofs.Lists.{put-nil, put-put, put-sets, length-put}
 use Rattle.text.specs.Writing.{Room, orDash}
 
--- xs was put at place `at` of l, which is l′ then, and r is the place after xs: the two promises of a function that puts text
+-- xs was put at place `at` of l, which is l′ then, and r is the place after xs: the two promises of a function that
+-- puts text
 abbrev pub Wrote : ℕ → List ℕ → List ℕ → List ℕ → ℕ → Type 0
 Wrote at xs l l′ r = (r ≡ at + length xs) × (l′ ≡ putAt at xs l)
 
@@ -102,7 +103,8 @@ module _ {at : ℕ} (a b c d : List ℕ) {l : List ℕ} (r : Room at (a ++ b ++ 
   pub four-all : {p q s t : ℕ} {l′ l″ l‴ l⁗ : List ℕ} → Wrote at a l l′ p → Wrote p b l′ l″ q → Wrote q c l″ l‴ s → Wrote s d l‴ l⁗ t → Wrote at (a ++ b ++ c ++ d) l l⁗ t
   four-all u v w x = two-all (a ++ b ++ c) d r (three-all a b c (two-1 (a ++ b ++ c) d r) u v w) x
 
--- what `search` needs for a function of two pieces, three, four; for the last room of three or four it may want `three-3` or `four-4` alone, since the set takes too many steps
+-- what `search` needs for a function of two pieces, three, four; for the last room of three or four it may want
+-- `three-3` or `four-4` alone, since the set takes too many steps
 pub ruleset two = (two-1, two-2, two-next, two-put, needs)
 
 pub ruleset three = (three-1, three-2, three-3, three-next, three-put, needs)

@@ -1,4 +1,5 @@
--- 14, 20 and the file's refusal end the chain of tests; behind them the file is accepted, and the walk starts at its header.
+-- 14, 20 and the file's refusal end the chain of tests; behind them the file is accepted, and the walk starts at its
+-- header.
 use mathlib.Core.Path.{_≡_, sym, _∙_}
 use lib.Seq.{length-take-le}
 use Rattle.answers.specs.declared.Answer.the-variants.{Accepted}

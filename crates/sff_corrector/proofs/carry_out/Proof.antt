@@ -1,5 +1,5 @@
--- The reasons are asked in their order on the file as it stands, and the record is carried out where none holds: then the
--- file is as it would be written afresh, and its read starts where it did.
+-- The reasons are asked in their order on the file as it stands, and the record is carried out where none holds: then
+-- the file is as it would be written afresh, and its read starts where it did.
 use Prim.Native.Nat.{_<_}
 use mathlib.Core.Path.{_≡_, sym, ap, _∙_}
 use native.Mathlib.Omega.{arith}

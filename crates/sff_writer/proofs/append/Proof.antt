@@ -8,7 +8,8 @@ use borrow.Author.Needs.{needs}
 use Rattle.sff_writer.proofs.append.Statement.{statement}
 use Rattle.sff_writer.proofs.append.Tie as tie
 
--- the places: the buffer's bytes known, the test has accepted, the same from where the read is put, and from where the count is
+-- the places: the buffer's bytes known, the test has accepted, the same from where the read is put, and from where the
+-- count is
 abbrev entered : tie.After-append-test → tie.After-slice-known
 entered c = c .before .before .before .before .before .before .before
 

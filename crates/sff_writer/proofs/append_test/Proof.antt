@@ -1,4 +1,5 @@
--- The tests in their order, each by what the call before it gave. A file that is open has its header's bytes, and a read that is not refused small counts.
+-- The tests in their order, each by what the call before it gave. A file that is open has its header's bytes, and a
+-- read that is not refused small counts.
 use mathlib.Core.Path.{sym}
 use native.Mathlib.Omega.{arith}
 use lib.Seq.{length-take-le}

@@ -1,4 +1,5 @@
--- The proof of the cycle of calls {choose, layer}. The measure: twice the filters that may still be opened, and one more at the choice. Assumes nothing.
+-- The proof of the cycle of calls {choose, layer}. The measure: twice the filters that may still be opened, and one
+-- more at the choice. Assumes nothing.
 use Prim.Native.Nat.{ℕ, _+_, _*_, _<_}
 use mathlib.Core.Path.{_≡_, sym, _∙_}
 use mathlib.Core.Bool.{false}

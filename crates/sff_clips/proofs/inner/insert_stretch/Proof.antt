@@ -1,4 +1,5 @@
--- There is a first base; what lies between the base before it and the last, or itself where that comes earlier, is the stretch's size.
+-- There is a first base; what lies between the base before it and the last, or itself where that comes earlier, is the
+-- stretch's size.
 use Prim.Native.Nat.{suc, _-_}
 use mathlib.Core.Path.{_≡_}
 use native.Mathlib.Omega.{arith}

@@ -8,13 +8,13 @@ use mathlib.Core.List.{List, [], _∷_, _++_, append-assoc, append-nil}
 use native.Mathlib.Omega.{arith}
 use borrow.Author.Tests.{eq-eqb}
 use lib.ListN.{length, take, drop, length-append, length-take, length-drop}
-use lib.Seq.{length-take-le, take-take, take-at, drop-at}
+use lib.Seq.{length-take-le, take-length, take-take, take-at, drop-at}
 use Rattle.octets.specs.Parts.{part, putAt, filled, settled, spliced, up8}
-use Rattle.octets.specs.Numbers.{Bytes, number, bytesOf, fields, words, unitBytes}
+use Rattle.octets.specs.Numbers.{Bytes, number, bytesOf, fields, words, unitBytes, unitsAt, wordsAt}
 use Rattle.octets.proofs.Lists.{length-put, put-over, put-next, length-part}
 use Rattle.octets.proofs.Digits.{length-bytesOf}
 use Rattle.octets.proofs.Inserts.{drop-rest}
-use Rattle.octets.proofs.Stands.{length-units, length-fields, length-filled, field-filled, number-take}
+use Rattle.octets.proofs.Stands.{stands-read, units-stand, length-units, length-fields, length-filled, field-filled, number-take}
 use Rattle.octets.proofs.Settled.{settled-front, settled-put, splice-settled}
 use Rattle.answers.specs.declared.Answer.the-variants.{Accepted}
 use Rattle.sff_format.specs.Model.{Read, noIndex, readFields, layoutReadHeader, layoutReadData, layoutRead, layoutReads, layout, withReads}
@@ -70,24 +70,18 @@ pieces front x back =
     let e : up8 (16 + length (x .name)) - (16 + length (x .name)) ≡ nameRoom (length (x .name)) - length (x .name) = omega arith in
     rw (l, e) (simp (append-assoc, append-nil))
 
--- the four clips, put one after another
-pub clips-put :
-    (p : ℕ) (x : Fields) (b : List ℕ) {s t u v : List ℕ} →
-    s ≡ putAt (p + 8) (bytesOf 2 (x .«quality_left»)) b →
-    t ≡ putAt (p + 8 + 2) (bytesOf 2 (x .«quality_right»)) s →
-    u ≡ putAt (p + 8 + 4) (bytesOf 2 (x .«adapter_left»)) t →
-    v ≡ putAt (p + 8 + 6) (bytesOf 2 (x .«adapter_right»)) u →
-    p + 16 ≤ length b →
-    v ≡ clippedAt p x b
-unfolding clippedAt unitBytes
-clips-put p x b e₁ e₂ e₃ e₄ h =
-    let one = bytesOf 2 (x .«quality_left») in
-    let two = bytesOf 2 (x .«quality_right») in
-    let three = bytesOf 2 (x .«adapter_left») in
-    let four = bytesOf 2 (x .«adapter_right») in
-    rw (e₄, e₃, e₂, e₁, put-next (p + 8) 2 one two b (length-bytesOf 2 _) (omega arith))
-    (rw (put-next (p + 8) 4 (one ++ two) three b (simp (length-append, length-bytesOf)) (omega arith))
-    (put-next (p + 8) 6 (one ++ two ++ three) four b (simp (length-append, length-bytesOf)) (omega arith) ∙ simp (append-assoc, append-nil)))
+-- the field of four clips, put whole
+pub clips-put : (p : ℕ) (clips b : List ℕ) {v : List ℕ} → length clips ≡ 8 → v ≡ putAt (p + 8) (part 0 8 clips) b → v ≡ clippedAt p clips b
+clips-put p clips b l e = let w : part 0 8 clips ≡ clips = rw (← l) (take-length clips) in e ∙ ap (λ (xs : List ℕ). putAt (p + 8) xs b) w
+
+-- it holds the clips that a record's fields say
+clips-field : (x : Fields) (r : List ℕ) → FieldsOf x r → Bytes r → length r ≡ 96
+    → part 8 8 r ≡ words (x .«quality_left» ∷ x .«quality_right» ∷ x .«adapter_left» ∷ x .«adapter_right» ∷ [])
+unfolding unitsAt
+clips-field x r o z h =
+    let l : length (words (wordsAt 4 8 r)) ≡ 8 = length-units 2 (wordsAt 4 8 r) in
+    stands-read 8 8 (words (wordsAt 4 8 r)) r l (units-stand 2 r z 4 8 (omega arith))
+    ∙ (λ j. words (sym o j .«quality_left» ∷ sym o j .«quality_right» ∷ sym o j .«adapter_left» ∷ sym o j .«adapter_right» ∷ []))
 
 -- a name and its two lengths, put one after another
 pub name-put : (p len n : ℕ) (field b : List ℕ) {old new : ℕ} {s t u : List ℕ} →
@@ -151,6 +145,9 @@ module _ {buffer : List ℕ} {len p : ℕ} {x : Fields} {r : List ℕ} (s : Read
 
   pub ready-record : length r ≡ 96
   ready-record = record-96 r (s .formed)
+
+  pub ready-clips : length (part 8 8 r) ≡ 8
+  ready-clips = let l = ready-record in length-part 8 8 r (omega arith)
 
   pub ready-field : length (part 56 40 r) ≡ 40
   ready-field = length-part 56 40 r (omega (arith, ready-record))
@@ -218,9 +215,9 @@ module _ {buffer : List ℕ} {len p : ℕ} {x : Fields} {r : List ℕ} (s : Read
         let f : u ++ (new-clips ++ w) ≡ new = sym (afresh-clips ∙ pieces front clipped-read back ∙ simp append-assoc) in
         ap (putAt (p + 8) new-clips) e ∙ (rw l at (put-over u new-clips (clip-bytes read) w m)) ∙ f
 
-    pub clips-done : {b : List ℕ} → b ≡ clippedAt p x buffer → (len ≡ length new) × (b ≡ over new len buffer)
-    unfolding clippedAt
-    clips-done e =
+    pub clips-done : Bytes r → {field b : List ℕ} → field ≡ part 8 8 r → b ≡ clippedAt p field buffer → (len ≡ length new) × (b ≡ over new len buffer)
+    clips-done z f g =
+        let e = g ∙ ap (λ (xs : List ℕ). putAt (p + 8) xs buffer) (f ∙ clips-field x r (s .fields-are) z (record-96 r (s .formed))) in
         let n : length new-clips ≡ 8 = length-units 2 _ in (
           sym (clips-size (asked x r) (parse file) counted _ _ _ _ (clips-asked x r (s .fields-are) k) ∙ laid),
           e ∙ ap (putAt (p + 8) new-clips) (sym held) ∙ over-put (p + 8) new-clips file len buffer (omega (arith, ready-start))

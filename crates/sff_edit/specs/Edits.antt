@@ -1,15 +1,14 @@
 -- What each edit in place writes, in bytes: p is the place of the read, len the file's length in the buffer b.
 -- Assumes nothing: these are definitions.
 use Prim.Native.Nat.{ℕ, _+_, _-_}
-use mathlib.Core.List.{List, [], _∷_, _++_}
+use mathlib.Core.List.{List, [], _++_}
 use lib.ListN.{take}
 use Rattle.octets.specs.Parts.{putAt, spliced, up8}
-use Rattle.octets.specs.Numbers.{bytesOf, words}
+use Rattle.octets.specs.Numbers.{bytesOf}
 use Rattle.sff_format.specs.Model.{layout}
 use Rattle.sff_format.specs.HeaderTest.{readCount}
 use Rattle.sff_format.specs.ReadTest.{sectionLength}
 use Rattle.sff_format.specs.Parse.{parse}
-use Rattle.sff_correction.specs.declared.Fields.{Fields}
 use Rattle.sff_correction.specs.Correction.{Correction}
 use Rattle.sff_correction.specs.Edit.{edited}
 
@@ -18,8 +17,8 @@ abbrev pub afresh : Correction → ℕ → List ℕ → List ℕ
 afresh c len b = layout (edited c (parse (take len b)))
 
 -- the four new clips, in file order, over the old ones
-unfoldable pub clippedAt : ℕ → Fields → List ℕ → List ℕ
-clippedAt p x b = putAt (p + 8) (words (x .«quality_left» ∷ x .«quality_right» ∷ x .«adapter_left» ∷ x .«adapter_right» ∷ [])) b
+abbrev pub clippedAt : ℕ → List ℕ → List ℕ → List ℕ
+clippedAt p clips b = putAt (p + 8) clips b
 
 -- how many bytes a name of n bytes takes with its padding
 abbrev pub nameRoom : ℕ → ℕ

@@ -14,6 +14,7 @@ ghost use Rattle.sff_correction.specs.Fields.{FieldsOf, asked};
 ghost use Rattle.sff_correction.specs.Reasons.{reasons};
 ghost use Rattle.sff_correction.specs.Correct.{over};
 ghost use Rattle.sff_edit.specs.Edits.{afresh, clippedAt, renamedAt, removedAt};
+use buffers::inner::copy;
 use buffers::inner::put16;
 use buffers::inner::put32;
 use octets::inner::get16;
@@ -21,20 +22,17 @@ use octets::inner::get32;
 use octets::inner::up8;
 use sff_correction::Fields;
 use sff_read::inner::read_end;
+use sff_record::inner::new_clips_field;
 use sff_record::inner::new_name_field;
 use splice::inner::cut;
 use splice::inner::splice;
 
 // Gives the read at p the four new clips.
-fn put_clips(buffer: &mut [u8], p: usize, fields: Fields)
-    requires { ⌜ p + 16 ≤ length (now buffer) ⌝ }
-    ensures { λ _. ⌜ now (buffer .exit) ≡ clippedAt p fields (now (buffer .entry)) ⌝ }
+fn put_clips(buffer: &mut [u8], p: usize, clips: &[u8])
+    requires { ⌜ (p + 16 ≤ length (now buffer)) × (length (now clips) ≡ 8) ⌝ }
+    ensures { λ _. ⌜ now (buffer .exit) ≡ clippedAt p (now (clips .entry)) (now (buffer .entry)) ⌝ }
 {
-    let at = p + 8;
-    put16(buffer, at, fields.quality_left);
-    put16(buffer, at + 2, fields.quality_right);
-    put16(buffer, at + 4, fields.adapter_left);
-    put16(buffer, at + 6, fields.adapter_right);
+    copy(buffer, p + 8, clips, 0, 8);
 }
 
 // Gives the read at p the name that fills the first n bytes of the field, and answers the file's length afterwards.
@@ -88,7 +86,8 @@ pub fn apply(buffer: &mut [u8], len: usize, place: usize, fields: Fields, record
 {
     let kind = fields.kind;
     if kind == 1 {
-        put_clips(buffer, place, fields);
+        let clips = new_clips_field(record);
+        put_clips(buffer, place, clips);
         return len;
     }
     if kind == 2 {

@@ -27,6 +27,14 @@ pub fn record_fields(record: &[u8]) -> Fields
     }
 }
 
+// The four clips that kind 1 gives the read, in file order.
+pub fn new_clips_field(record: &[u8]) -> &[u8]
+    requires { ⌜ length (now «record») ≡ 96 ⌝ }
+    ensures { λ v. ⌜ now v ≡ part 8 8 (now («record» .entry)) ⌝ }
+{
+    &record[8..16]
+}
+
 // The name that the read must have.
 pub fn old_name(record: &[u8], fields: Fields) -> &[u8]
     requires { ⌜ recordTest (now «record») ≡ Accepted ⌝ }

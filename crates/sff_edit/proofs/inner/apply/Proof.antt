@@ -4,7 +4,7 @@ use native.Mathlib.Omega.{arith}
 use lib.ListN.{length}
 use lib.Seq.{length-take-le}
 use Rattle.octets.proofs.AllBytes.{bytes-of, bytes-take}
-use Rattle.sff_edit.proofs.InPlace.{Ready, ready-record, ready-field, ready-header, ready-start, ready-read, clips-done, section-least, section-inside, name-room, name-inside, name-done, reads-least, end-inside, none-done}
+use Rattle.sff_edit.proofs.InPlace.{Ready, ready-record, ready-clips, ready-field, ready-header, ready-start, ready-read, clips-done, section-least, section-inside, name-room, name-inside, name-done, reads-least, end-inside, none-done}
 use borrow.Author.Needs.{needs}
 use Rattle.sff_edit.proofs.inner.apply.Statement.{statement}
 use Rattle.sff_edit.proofs.inner.apply.Tie as tie
@@ -27,8 +27,11 @@ ready c =
 returns : tie.Need-returns
 returns c =
     let put = c .before .before in
-    let one = put .before .before in
-    clips-done (ready (one .before .before)) (one .if1 .taken) (put .put-clips .ensures)
+    let field = put .before .before in
+    let one = field .before in
+    let r = one .before .before .before .args .«record» .now in
+    let z = bytes-of r (λ j. one .before .shared-slice-known .given j .fits) in
+    clips-done (ready (one .before .before)) (one .if1 .taken) z (field .new-clips-field .ensures) (put .put-clips .ensures)
 
 returns-2 : tie.Need-returns-2
 returns-2 c =
@@ -47,8 +50,14 @@ returns-3 c =
     let n = out .take-out .ensures in
     none-done (ready (two .before .before .before)) (two .before .if1 .left) (two .if2 .left) (flows .get16 .ensures .0) (end .read-end .ensures) (n .0) (n .1)
 
+new-clips-field-requires : tie.Need-new-clips-field-requires
+new-clips-field-requires c κs = ready-record (ready (c .before .before))
+
 put-clips-requires : tie.Need-put-clips-requires
-put-clips-requires c κs = let s = ready (c .before .before .before) in omega (arith, ready-read s, s .inside)
+put-clips-requires c κs =
+    let field = c .before in
+    let s = ready (field .before .before .before) in
+    (omega (arith, ready-read s, s .inside), ap length (field .new-clips-field .ensures) ∙ ready-clips s)
 
 new-name-field-requires : tie.Need-new-name-field-requires
 new-name-field-requires c κs = ready-record (ready (c .before .before .before))
@@ -91,6 +100,7 @@ pub apply-spec : {M : Type 1} → statement M
 apply-spec =
     tie.close
     (tie.spec
+    new-clips-field-requires
     put-clips-requires
     (λ c. search needs)
     returns

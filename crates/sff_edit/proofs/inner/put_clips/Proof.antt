@@ -1,4 +1,4 @@
--- The promises of the four writes, one after another.
+-- The clips fill their field, so that the copy is of all of it.
 use Rattle.sff_edit.proofs.InPlace.{clips-put}
 use borrow.Author.Needs.{needs}
 use Rattle.sff_edit.proofs.inner.put_clips.Statement.{statement}
@@ -8,16 +8,4 @@ returns : tie.Need-returns
 returns c = search (clips-put, needs)
 
 pub put-clips-spec : {M : Type 1} → statement M
-put-clips-spec =
-    tie.close
-    (tie.spec
-    (λ c. search needs)
-    (λ c κs. search needs)
-    (λ c. search needs)
-    (λ c κs. search needs)
-    (λ c. search needs)
-    (λ c κs. search needs)
-    (λ c. search needs)
-    (λ c κs. search needs)
-    (λ c. search needs)
-    returns)
+put-clips-spec = tie.close (tie.spec (λ c. search needs) (λ c κs. search needs) (λ c. search needs) returns)

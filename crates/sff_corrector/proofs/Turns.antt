@@ -21,7 +21,6 @@ use Rattle.sff_format.specs.Places.{place, readPlace}
 use Rattle.sff_format.proofs.FileLaid.{reads-counted}
 use Rattle.sff_format.proofs.Written.{layout-bytes}
 use Rattle.sff_format.proofs.Places.{place-found}
-use Rattle.sff_find.specs.declared.inner.Mark.{Mark}
 use Rattle.sff_correction.specs.declared.ListOutcome.{ListOutcome}
 use Rattle.sff_correction.specs.declared.Fields.{Fields}
 use Rattle.sff_correction.specs.Record.{position, recordTest}
@@ -37,8 +36,7 @@ use Rattle.sff_correction.proofs.Carried.{refused-outcome, refused-buffer, done
 use Rattle.sff_correction.proofs.ListTurns.{turn-on, turn-stop, list-20, list-run, list-none}
 use Rattle.sff_corrector.specs.declared.Carried.{Carried}
 use Rattle.sff_corrector.specs.declared.Carried.the-variants.{Out, Stopped}
-use Rattle.sff_corrector.specs.declared.Start.the-variants.{Known}
-use Rattle.sff_corrector.specs.Carried.{outcomeOf, Ready, Onward}
+use Rattle.sff_corrector.specs.Carried.{outcomeOf, knownAt, Ready, Onward}
 
 -- what is told of a record that is refused
 module _ (buffer : List ℕ) (len : ℕ) (r : List ℕ) where
@@ -101,7 +99,7 @@ module _ (buffer : List ℕ) (len : ℕ) (r : List ℕ) where
           )
 
       pub ready : {n : ℕ} {b : List ℕ} {q i : ℕ} → n ≡ length (corrected buffer len r) → b ≡ over (corrected buffer len r) len buffer → i ≡ position r
-          → q ≡ readPlace (take len buffer) i → Ready b n (Known (record { position = i; place = q }))
+          → q ≡ readPlace (take len buffer) i → Ready b n (knownAt i q)
       ready {n} {b} {q} {i} m f k g =
           rw (m, f)
           (
@@ -118,21 +116,21 @@ module _ (buffer : List ℕ) (len : ℕ) (r : List ℕ) where
   answer-told v e = ap (λ (o : Outcome). o .answer) e
 
 -- The invariant of the loop over a list: k records are carried out, and what is to come is the rest.
-pub record Going (n : ℕ) (b₀ : List ℕ) (len₀ : ℕ) (l b : List ℕ) (k len : ℕ) (m : Mark) : Type 0 where
+pub record Going (n : ℕ) (b₀ : List ℕ) (len₀ : ℕ) (l b : List ℕ) (k len i p : ℕ) : Type 0 where
   pub low : k ≤ n
   pub whole : 96 * n ≤ length l
   pub same : length b ≡ length b₀
-  pub ready : Ready b len (Known m)
+  pub ready : Ready b len (knownAt i p)
   pub is : turns (n - 1) 1 b₀ len₀ l ≡ turns (n - k) k b len l
 
-pub going-start : (n : ℕ) (b : List ℕ) (len : ℕ) (l : List ℕ) (m : Mark) → 1 ≤ n → 96 * n ≤ length l → Ready b len (Known m) → Going n b len l b 1 len m
-going-start n b len l m h w s = record { low = h; whole = w; same = refl; ready = s; is = refl }
+pub going-start : (n : ℕ) (b : List ℕ) (len : ℕ) (l : List ℕ) (i p : ℕ) → 1 ≤ n → 96 * n ≤ length l → Ready b len (knownAt i p) → Going n b len l b 1 len i p
+going-start n b len l i p h w s = record { low = h; whole = w; same = refl; ready = s; is = refl }
 
 -- what a run told so far
 told : {count : ℕ} {a : Answer} {len : ℕ} {b : List ℕ} {t : Run} → t ≡ ran count a len b → (record { count = count; answer = a; length = len } ≡ t .outcome) × (b ≡ t .buffer)
 told e = (sym (ap (λ (x : Run). x .outcome) e), sym (ap (λ (x : Run). x .buffer) e))
 
-module _ {n : ℕ} {b₀ : List ℕ} {len₀ : ℕ} {l b : List ℕ} {k len : ℕ} {m : Mark} (g : Going n b₀ len₀ l b k len m) where
+module _ {n : ℕ} {b₀ : List ℕ} {len₀ : ℕ} {l b : List ℕ} {k len i p : ℕ} (g : Going n b₀ len₀ l b k len i p) where
   pub going-done : n ≤ k → (record { count = k; answer = Accepted; length = len } ≡ turns (n - 1) 1 b₀ len₀ l .outcome) × (b ≡ turns (n - 1) 1 b₀ len₀ l .buffer)
   unfolding turns
   going-done h = let z : n - k ≡ 0 = omega arith in told (g .is ∙ rw z)
@@ -144,8 +142,8 @@ module _ {n : ℕ} {b₀ : List ℕ} {len₀ : ℕ} {l b : List ℕ} {k len : �
     next : n - k ≡ suc (n - (k + 1))
     next = omega arith
 
-    pub going-more : {x : ℕ} {m′ : Mark} → v ≡ Out x m′ → Onward b′ v → Going n b₀ len₀ l b′ (k + 1) x m′
-    going-more {x} {m′} c o =
+    pub going-more : {x j q : ℕ} → v ≡ Out x j q → Onward b′ v → Going n b₀ len₀ l b′ (k + 1) x j q
+    going-more {x} {j} {q} c o =
         let r : List ℕ = recordAt k l in
         let t : correctTest b len r ≡ Accepted = sym (answer-told b len r v e) ∙ ap (λ (w : Carried). outcomeOf len w .answer) c in
         let d : x ≡ length (corrected b len r) = ap (λ (o : Outcome). o .length) (sym (ap (outcomeOf len) c) ∙ e ∙ done-outcome b len r t) in
@@ -182,14 +180,14 @@ module _ (b : List ℕ) (len : ℕ) (l : List ℕ) where
           let eb : b′ ≡ b = f ∙ refused-buffer b len r t in
           told (list-run b len l w ∙ ap (λ (i : ℕ). turns i 0 b len l) some ∙ turn-stop (length l / 96 - 1) 0 b len l x p t ∙ ap (ran 0 (Refused x p) len) (sym eb))
 
-      first-on : {x : ℕ} {m : Mark} → v ≡ Out x m → runList b len l ≡ turns (length l / 96 - 1) 1 b′ x l
-      first-on {x} {m} c =
+      first-on : {x i p : ℕ} → v ≡ Out x i p → runList b len l ≡ turns (length l / 96 - 1) 1 b′ x l
+      first-on {x} {i} {p} c =
           let r : List ℕ = recordAt 0 l in
           let t : correctTest b len r ≡ Accepted = sym (answer-told b len r v e) ∙ ap (λ (w : Carried). outcomeOf len w .answer) c in
           let d : x ≡ length (corrected b len r) = ap (λ (o : Outcome). o .length) (sym (ap (outcomeOf len) c) ∙ e ∙ done-outcome b len r t) in
           let eb : b′ ≡ over (corrected b len r) len b = f ∙ done-buffer b len r t in
           list-run b len l w ∙ ap (λ (i : ℕ). turns i 0 b len l) some ∙ turn-on (length l / 96 - 1) 0 b len l t ∙ rw (d, eb)
 
-      pub first-run : {x : ℕ} {m : Mark} {o : ListOutcome} {b″ : List ℕ} → v ≡ Out x m → o ≡ turns (length l / 96 - 1) 1 b′ x l .outcome → b″ ≡ turns (length l / 96 - 1) 1 b′ x l .buffer
+      pub first-run : {x i p : ℕ} {o : ListOutcome} {b″ : List ℕ} → v ≡ Out x i p → o ≡ turns (length l / 96 - 1) 1 b′ x l .outcome → b″ ≡ turns (length l / 96 - 1) 1 b′ x l .buffer
           → (o ≡ runList b len l .outcome) × (b″ ≡ runList b len l .buffer)
       first-run c d g = let t = first-on c in (d ∙ sym (ap (λ (x : Run). x .outcome) t), g ∙ sym (ap (λ (x : Run). x .buffer) t))

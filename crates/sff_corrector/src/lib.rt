@@ -11,8 +11,7 @@ ghost use Rattle.sff_format.specs.Places.{readPlace};
 ghost use Rattle.sff_correction.specs.Record.{recordTest};
 ghost use Rattle.sff_correction.specs.Correct.{correctOutcome, correctBuffer};
 ghost use Rattle.sff_correction.specs.ListRun.{turns, runList};
-ghost use Rattle.sff_corrector.specs.declared.Start.the-variants.{Known};
-ghost use Rattle.sff_corrector.specs.Carried.{outcomeOf, StartIn, Ready, Onward};
+ghost use Rattle.sff_corrector.specs.Carried.{outcomeOf, StartIn, knownAt, Ready, Onward};
 use answers::Answer;
 use sff::file_test;
 use sff_correction::ListOutcome;
@@ -26,9 +25,9 @@ use sff_reasons::inner::reason;
 use sff_record::inner::record_fields;
 use sff_record::record_test;
 
-// What came of a record: the file's length afterwards, with the place of its read, or the refusal.
+// What came of a record: the file's length afterwards, with the position and the place of its read, or the refusal.
 enum Carried {
-    Out(usize, Mark),
+    Out(usize, usize, usize),
     Stopped(u8, usize),
 }
 
@@ -71,7 +70,7 @@ fn carry_out(buffer: &mut [u8], len: usize, record: &[u8], from: Start) -> Carri
         return Carried::Stopped(number, at);
     }
     let length = apply(buffer, len, place, fields, record);
-    Carried::Out(length, Mark { position, place })
+    Carried::Out(length, position, place)
 }
 
 // A record on a file that was not tested yet: 14, 20, the file's refusal, and the rest.
@@ -93,8 +92,15 @@ fn carry_first(buffer: &mut [u8], len: usize, record: &[u8]) -> Carried
 }
 
 // A further record of a list, which stands in it at `at`: the record before it has left an accepted file.
-fn carry_next(buffer: &mut [u8], len: usize, list: &[u8], at: usize, from: Mark) -> Carried
-    requires { ⌜ Ready (now buffer) len (Known from) ⌝ }
+fn carry_next(
+    buffer: &mut [u8],
+    len: usize,
+    list: &[u8],
+    at: usize,
+    position: usize,
+    place: usize,
+) -> Carried
+    requires { ⌜ Ready (now buffer) len (knownAt position place) ⌝ }
     requires { ⌜ at + 96 ≤ length (now list) ⌝ }
     ensures { λ v. ⌜ outcomeOf len v ≡ correctOutcome (now (buffer .entry)) len (part at 96 (now (list .entry))) ⌝ }
     ensures { λ v. ⌜ now (buffer .exit) ≡ correctBuffer (now (buffer .entry)) len (part at 96 (now (list .entry))) ⌝ }
@@ -104,25 +110,36 @@ fn carry_next(buffer: &mut [u8], len: usize, list: &[u8], at: usize, from: Mark)
     if let Answer::Refused(number, place) = record_test(&list[at..end]) {
         return Carried::Stopped(number, place);
     }
-    carry_out(buffer, len, &list[at..end], Start::Known(from))
+    let from = Start::Known(Mark { position, place });
+    carry_out(buffer, len, &list[at..end], from)
 }
 
-// The n records of a list from the second on, where the first was carried out.
-fn run(buffer: &mut [u8], len: usize, list: &[u8], n: usize, first: Mark) -> ListOutcome
-    requires { ⌜ Ready (now buffer) len (Known first) ⌝ }
+// The n records of a list from the second on, where the first was carried out on the read at position `first`, which
+// starts at `start`. Position and place go from turn to turn as numbers: a struct is copied through memory.
+fn run(
+    buffer: &mut [u8],
+    len: usize,
+    list: &[u8],
+    n: usize,
+    first: usize,
+    start: usize,
+) -> ListOutcome
+    requires { ⌜ Ready (now buffer) len (knownAt first start) ⌝ }
     requires { ⌜ (1 ≤ n) × (96 * n ≤ length (now list)) ⌝ }
     ensures { λ v. ⌜ v ≡ turns (n - 1) 1 (now (buffer .entry)) len (now (list .entry)) .outcome ⌝ }
     ensures { λ _. ⌜ now (buffer .exit) ≡ turns (n - 1) 1 (now (buffer .entry)) len (now (list .entry)) .buffer ⌝ }
 {
     let mut count = 1;
     let mut length = len;
-    let mut from = first;
+    let mut position = first;
+    let mut place = start;
     while count < n {
-        let carried = carry_next(buffer, length, list, 96 * count, from);
+        let carried = carry_next(buffer, length, list, 96 * count, position, place);
         match carried {
-            Carried::Out(next, mark) => {
+            Carried::Out(next, at, starts) => {
                 length = next;
-                from = mark;
+                position = at;
+                place = starts;
                 count += 1;
             }
             Carried::Stopped(number, at) => {
@@ -149,7 +166,7 @@ pub fn correct(buffer: &mut [u8], file_length: usize, record: &[u8]) -> Outcome
 {
     let carried = carry_first(buffer, file_length, record);
     match carried {
-        Carried::Out(length, _) => Outcome {
+        Carried::Out(length, _, _) => Outcome {
             answer: Answer::Accepted,
             length,
         },
@@ -183,7 +200,7 @@ pub fn correct_list(buffer: &mut [u8], file_length: usize, list: &[u8]) -> ListO
     }
     let carried = carry_first(buffer, file_length, &list[..96]);
     match carried {
-        Carried::Out(length, first) => run(buffer, length, list, n, first),
+        Carried::Out(length, first, start) => run(buffer, length, list, n, first, start),
         Carried::Stopped(number, at) => ListOutcome {
             count: 0,
             answer: Answer::Refused(number, at),

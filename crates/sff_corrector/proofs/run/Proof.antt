@@ -6,10 +6,10 @@ use Rattle.sff_corrector.proofs.run.Statement.{statement}
 use Rattle.sff_corrector.proofs.run.Tie as tie
 
 abbrev Inv-loop : tie.InvT-loop
-Inv-loop buffer₀ len list n count₀ length₀ from₀ buffer count length from = Going n buffer₀ len list buffer count length from
+Inv-loop buffer₀ len list n first start count₀ length₀ position₀ place₀ buffer count length position place = Going n buffer₀ len list buffer count length position place
 
 abbrev μ-loop : tie.MeasureT-loop
-μ-loop buffer₀ len list n count₀ length₀ from₀ buffer count length from = n - count
+μ-loop buffer₀ len list n first start count₀ length₀ position₀ place₀ buffer count length position place = n - count
 
 pub run-spec : {M : Type 1} → statement M
 run-spec =
@@ -17,7 +17,7 @@ run-spec =
     (tie.spec
     Inv-loop
     μ-loop
-    (λ c. let d = c .before .before in going-start _ _ _ _ _ (d .pre .1 .0) (d .pre .1 .1) (d .pre .0))
+    (λ c. let d = c .before .before in going-start _ _ _ _ _ _ (d .pre .1 .0) (d .pre .1 .1) (d .pre .0))
     (λ c. let g = going-room (c .before .before .loop .inv) (c .before .loop-test .taken) in search needs)
     (λ c κs. let i = c .before .before .loop .inv in (i .ready, going-room i (c .before .loop-test .taken)))
     (λ c. search needs)

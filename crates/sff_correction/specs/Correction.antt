@@ -12,7 +12,7 @@ pub data Change : Type 0 where
   rename : List ℕ → Change
   remove : Change
 
--- "a correction names the read's position and its name"
+-- what a record asks for: the read by its "position from 0" and its "old name", and what it does to it
 pub record Correction : Type 0 where
   pub position : ℕ
   pub old-name : List ℕ

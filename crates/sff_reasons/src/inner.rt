@@ -1,5 +1,6 @@
 // One test for each reason of document 01 from 21 on, and the first that holds. For the crates above, which have tested
-// the file and the record and, from 22 on, found the read: hence each `requires`.
+// the file and the record and, from 22 on, found the read: hence each `requires`. Where a test reads the fields alone,
+// `record` is there for its promise: it says what the fields ask for.
 ghost use mathlib.Core.Path.{_≡_};
 ghost use Prim.Native.Nat.{ℕ, _+_, _≤_, _<_};
 ghost use mathlib.Core.List.{[]};

@@ -10,6 +10,21 @@ Inv-loop pairs i₀ i = 2 * pairs < 2 ^ 64
 abbrev μ-loop : tie.MeasureT-loop
 μ-loop pairs i₀ i = pairs - i
 
+loop-holds : tie.Need-loop-holds
+loop-holds c = omega arith
+
+mul-correct : tie.Need-mul-correct
+mul-correct c = omega arith
+
+add-correct : tie.Need-add-correct
+add-correct c = omega arith
+
+mul-correct-2 : tie.Need-mul-correct-2
+mul-correct-2 c = omega arith
+
+add-correct-2 : tie.Need-add-correct-2
+add-correct-2 c = omega arith
+
 pub main-spec : {M : Type 1} → statement M
 main-spec =
     tie.close
@@ -17,11 +32,11 @@ main-spec =
     Inv-loop
     μ-loop
     (λ c κs. search needs)
-    (λ c. omega arith)
-    (λ c. omega arith)
-    (λ c. omega arith)
-    (λ c. omega arith)
-    (λ c. omega arith)
+    loop-holds
+    mul-correct
+    add-correct
+    mul-correct-2
+    add-correct-2
     (λ c κs. search needs)
     (λ c. search needs)
     (λ c. search needs)

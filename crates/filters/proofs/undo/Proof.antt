@@ -21,6 +21,37 @@ held : (c : tie.After-undo-filter) → let a = c .before .before .before .before
     Holds (k .result) (undone (c .before .before .before .before .before .filter-at .result) (a .block .now)) (a .first .now) (k .last .0)
 held c = let k = c .undo-filter in record { fits = opens-here (passed (c .before .before)) .3; is = k .ensures .1; count = k .ensures .0 }
 
+returns : tie.Need-returns
+returns c =
+    let k = c .before .before .before .before in
+    chosen-refused (told (k .before .before .before .before .before .before)) true (k .before .before .before .before .answer .given .1) (k .refuse .ensures)
+
+undo-filter-requires : tie.Need-undo-filter-requires
+undo-filter-requires c κs = opens-here (passed (c .before))
+
+clear-behind-requires : tie.Need-clear-behind-requires
+clear-behind-requires c κs = held-inside (held (c .before .before .before .before .before))
+
+returns-2 : tie.Need-returns-2
+returns-2 c =
+    let z = c .before .before in
+    let i = z .before .before .before .before .before .before in
+    let u = i .before .before .before .before in
+    let raw = sym (i .before .is-raw .ensures) ∙ i .if1 .taken in
+    chosen-raw (passed (u .before .before)) raw (held u) (z .before .before .before .before .clear-behind .ensures) (z .clear-behind2 .ensures)
+
+choose-requires : tie.Need-choose-requires
+choose-requires c κs = held-inside (held (c .before .before .before .before .before .before))
+
+returns-3 : tie.Need-returns-3
+returns-3 c =
+    let k = c .before .before .before .before in
+    let i = k .before .before .before in
+    let u = i .before .before .before .before in
+    let second = u .before .before .before .before .before .before .before .before .before .before .args .second .now in
+    let not-raw = sym (i .before .is-raw .ensures) ∙ i .if1 .left in
+    chosen-layer (passed (u .before .before)) not-raw true (handed (held u) 7 true second (k .choose .ensures))
+
 pub undo-spec : {M : Type 1} → statement M
 undo-spec =
     tie.close
@@ -32,29 +63,16 @@ undo-spec =
     (λ c κs. search needs)
     (λ c. search needs)
     (λ c. search needs)
-    (λ c.
-    let k = c .before .before .before .before in
-    chosen-refused (told (k .before .before .before .before .before .before)) true (k .before .before .before .before .answer .given .1) (k .refuse .ensures))
+    returns
     (λ c. search needs)
-    (λ c κs. opens-here (passed (c .before)))
+    undo-filter-requires
     (λ c κs. search needs)
-    (λ c κs. held-inside (held (c .before .before .before .before .before)))
+    clear-behind-requires
     (λ c κs. search needs)
     (λ c. search needs)
     (λ c. search needs)
-    (λ c.
-    let z = c .before .before in
-    let i = z .before .before .before .before .before .before in
-    let u = i .before .before .before .before in
-    let raw = sym (i .before .is-raw .ensures) ∙ i .if1 .taken in
-    chosen-raw (passed (u .before .before)) raw (held u) (z .before .before .before .before .clear-behind .ensures) (z .clear-behind2 .ensures))
-    (λ c κs. held-inside (held (c .before .before .before .before .before .before)))
+    returns-2
+    choose-requires
     (λ c. search needs)
     (λ c. search needs)
-    (λ c.
-    let k = c .before .before .before .before in
-    let i = k .before .before .before in
-    let u = i .before .before .before .before in
-    let second = u .before .before .before .before .before .before .before .before .before .before .args .second .now in
-    let not-raw = sym (i .before .is-raw .ensures) ∙ i .if1 .left in
-    chosen-layer (passed (u .before .before)) not-raw true (handed (held u) 7 true second (k .choose .ensures))))
+    returns-3)

@@ -18,6 +18,24 @@ held c =
     let o = alone-opens (told (c .before .before .before .before)) (c .before .before .enum-told .given .1) in
     record { fits = o .3; is = k .ensures .1; count = k .ensures .0 }
 
+returns : tie.Need-returns
+returns c =
+    let k = c .before .before .before .before in
+    alone-refused (told (k .before .before .before .before .before .before)) (k .before .before .before .before .answer .given .1) (k .refuse .ensures)
+
+undo-filter-requires : tie.Need-undo-filter-requires
+undo-filter-requires c κs = alone-opens (told (c .before .before .before)) (c .before .enum-told .given .1)
+
+clear-behind-requires : tie.Need-clear-behind-requires
+clear-behind-requires c κs = held-inside (held (c .before .before .before))
+
+returns-2 : tie.Need-returns-2
+returns-2 c =
+    let z = c .before .before in
+    let u = z .before .before .before .before .before .before .before .before in
+    let ok = u .before .before .enum-told .given .1 in
+    alone-placed (told (u .before .before .before .before)) ok (held u) (z .before .before .before .before .clear-behind .ensures) (z .clear-behind2 .ensures)
+
 pub undo-layer-spec : {M : Type 1} → statement M
 undo-layer-spec =
     tie.close
@@ -29,17 +47,11 @@ undo-layer-spec =
     (λ c κs. search needs)
     (λ c. search needs)
     (λ c. search needs)
-    (λ c.
-    let k = c .before .before .before .before in
-    alone-refused (told (k .before .before .before .before .before .before)) (k .before .before .before .before .answer .given .1) (k .refuse .ensures))
+    returns
     (λ c. search needs)
-    (λ c κs. alone-opens (told (c .before .before .before)) (c .before .enum-told .given .1))
-    (λ c κs. held-inside (held (c .before .before .before)))
+    undo-filter-requires
+    clear-behind-requires
     (λ c κs. search needs)
     (λ c. search needs)
     (λ c. search needs)
-    (λ c.
-    let z = c .before .before in
-    let u = z .before .before .before .before .before .before .before .before in
-    let ok = u .before .before .enum-told .given .1 in
-    alone-placed (told (u .before .before .before .before)) ok (held u) (z .before .before .before .before .clear-behind .ensures) (z .clear-behind2 .ensures)))
+    returns-2)

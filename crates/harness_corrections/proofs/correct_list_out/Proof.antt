@@ -4,12 +4,15 @@ use borrow.Author.Needs.{needs}
 use Rattle.harness_corrections.proofs.correct_list_out.Statement.{statement}
 use Rattle.harness_corrections.proofs.correct_list_out.Tie as tie
 
-pub correct-list-out-spec : {M : Type 1} → statement M
-correct-list-out-spec =
-    tie.close (tie.spec (λ c κs. search needs) (λ c κs. search needs) (λ c κs. search needs) (λ c. search needs) (λ c.
+returns : tie.Need-returns
+returns c =
     let d = c .before in
     let w = d .before .before .before .correct-list .ensures in
     let e = w .0 in (
       c .number-of .ensures ∙ ap (λ o. numberOf (o .answer)) e,
       (ap (λ o. o .count) e, (d .place-of .ensures ∙ ap (λ o. placeOf (o .answer)) e, (ap (λ o. o .length) e, w .1))),
-    )))
+    )
+
+pub correct-list-out-spec : {M : Type 1} → statement M
+correct-list-out-spec =
+    tie.close (tie.spec (λ c κs. search needs) (λ c κs. search needs) (λ c κs. search needs) (λ c. search needs) returns)

@@ -5,16 +5,8 @@ use borrow.Author.Needs.{needs}
 use Rattle.harness_files.proofs.append_out.Statement.{statement}
 use Rattle.harness_files.proofs.append_out.Tie as tie
 
-pub append-out-spec : {M : Type 1} → statement M
-append-out-spec =
-    tie.close
-    (tie.spec
-    (λ c κs. search needs)
-    (λ c κs. search needs)
-    (λ c κs. search needs)
-    (λ c κs. search needs)
-    (λ c. search needs)
-    (λ c.
+returns : tie.Need-returns
+returns c =
     let d = c .before in
     let w = d .before .before .before in
     let k = w .before .clips-from .ensures in
@@ -26,4 +18,15 @@ append-out-spec =
         d .place-of .ensures ∙ ap (λ o. placeOf (o .answer)) e,
         (ap (λ o. o .length) e, w .append .ensures .1 ∙ ap (appendBuffer (a .buffer .now) (a .file-length)) r),
       ),
-    )))
+    )
+
+pub append-out-spec : {M : Type 1} → statement M
+append-out-spec =
+    tie.close
+    (tie.spec
+    (λ c κs. search needs)
+    (λ c κs. search needs)
+    (λ c κs. search needs)
+    (λ c κs. search needs)
+    (λ c. search needs)
+    returns)

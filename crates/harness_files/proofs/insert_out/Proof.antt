@@ -6,18 +6,8 @@ use borrow.Author.Needs.{needs}
 use Rattle.harness_files.proofs.insert_out.Statement.{statement}
 use Rattle.harness_files.proofs.insert_out.Tie as tie
 
-pub insert-out-spec : {M : Type 1} → statement M
-insert-out-spec =
-    tie.close
-    (tie.spec
-    (λ c κs. search needs)
-    (λ c κs. search needs)
-    (λ c κs. search needs)
-    (λ c κs. search needs)
-    (λ c κs. search needs)
-    (λ c κs. search needs)
-    (λ c. search needs)
-    (λ c.
+returns : tie.Need-returns
+returns c =
     let d = c .before .before .before in
     let p = d .before .before in
     let i = p .before in
@@ -30,4 +20,17 @@ insert-out-spec =
           (i .before .insert-ends .ensures .1, (ap length (i .insert .ensures), d .put-front .ensures ∙ ap (λ x. putFront x (i .before .before .before .before .before .args .out .now)) (i .insert .ensures))),
         ),
       ),
-    )))
+    )
+
+pub insert-out-spec : {M : Type 1} → statement M
+insert-out-spec =
+    tie.close
+    (tie.spec
+    (λ c κs. search needs)
+    (λ c κs. search needs)
+    (λ c κs. search needs)
+    (λ c κs. search needs)
+    (λ c κs. search needs)
+    (λ c κs. search needs)
+    (λ c. search needs)
+    returns)

@@ -18,6 +18,9 @@ returns-2 c =
     let d = c .before .before .before .before .before .before in
     rw (d .pre .1 .1 .1 .0) (measured _ (headerLine _ _ _) (linesFrom 0 _) (c .before .after-header-line .ensures) (c .after-reads .ensures))
 
+after-reads-requires : tie.Need-after-reads-requires
+after-reads-requires c κs = let d = c .before .before .before .before .before in (d .pre .0, (d .pre .1 .0, d .pre .1 .1 .0))
+
 pub lacks-room-spec : {M : Type 1} → statement M
 lacks-room-spec =
     tie.close
@@ -26,5 +29,5 @@ lacks-room-spec =
     returns
     (λ c. search needs)
     (λ c κs. search needs)
-    (λ c κs. let d = c .before .before .before .before .before in (d .pre .0, (d .pre .1 .0, d .pre .1 .1 .0)))
+    after-reads-requires
     returns-2)

@@ -23,6 +23,9 @@ returns-2 c =
     let e = listing-refused (a .file .now) _ _ (sym (tested .file-test .ensures) ∙ told .answer .given .1) in
     counted (listing (a .file .now)) (a .out .now) (rw e (c .before .before .write-refusal .ensures))
 
+put-file-requires : tie.Need-put-file-requires
+put-file-requires c κs = sym (c .before .before .before .file-test .ensures) ∙ c .before .enum-told .given .1
+
 pub list-spec : {M : Type 1} → statement M
 list-spec =
     tie.close
@@ -30,7 +33,7 @@ list-spec =
     (λ c κs. search needs)
     (λ c. search needs)
     (λ c. search needs)
-    (λ c κs. sym (c .before .before .before .file-test .ensures) ∙ c .before .enum-told .given .1)
+    put-file-requires
     (λ c. search needs)
     returns
     (λ c. search needs)

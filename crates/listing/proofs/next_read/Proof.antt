@@ -14,11 +14,20 @@ returns c =
     let f = flows-of (d .args .header) _ (d .pre .1 .1 .0) in
     (rw (view .read-view .ensures, start .past-index .ensures, f), rw (c .next-boundary .ensures, start .past-index .ensures))
 
+past-index-requires : tie.Need-past-index-requires
+past-index-requires c κs = let d = c .before in (d .pre .1 .1 .0, (d .pre .1 .1 .1, d .pre .0 .inside))
+
+read-view-requires : tie.Need-read-view-requires
+read-view-requires c κs = let d = c .before .before in (walk-begins (d .pre .0) (c .past-index .ensures) (d .pre .1 .0), search needs)
+
+next-boundary-requires : tie.Need-next-boundary-requires
+next-boundary-requires c κs = let d = c .before .before .before in (d .pre .1 .1 .0, (d .pre .1 .1 .1, walk-begins (d .pre .0) (c .before .past-index .ensures) (d .pre .1 .0)))
+
 pub next-read-spec : {M : Type 1} → statement M
 next-read-spec =
     tie.close
     (tie.spec
-    (λ c κs. let d = c .before in (d .pre .1 .1 .0, (d .pre .1 .1 .1, d .pre .0 .inside)))
-    (λ c κs. let d = c .before .before in (walk-begins (d .pre .0) (c .past-index .ensures) (d .pre .1 .0), search needs))
-    (λ c κs. let d = c .before .before .before in (d .pre .1 .1 .0, (d .pre .1 .1 .1, walk-begins (d .pre .0) (c .before .past-index .ensures) (d .pre .1 .0))))
+    past-index-requires
+    read-view-requires
+    next-boundary-requires
     returns)

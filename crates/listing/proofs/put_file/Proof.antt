@@ -50,16 +50,25 @@ put-reads-requires c κs =
     let h = s .before .before .header-fields .ensures in
     (given s .pre, (h .0, (h .1, two-2 _ _ (room-both (headerLine _ _ _) (linesFrom 0 _) _ (fits (header .before))) (w .0) (w .1))))
 
+header-fields-requires : tie.Need-header-fields-requires
+header-fields-requires c κs = header-whole _ (c .before .before .pre)
+
+lacks-room-requires : tie.Need-lacks-room-requires
+lacks-room-requires c κs = let h = c .before .before .header-fields .ensures in (given c .pre, (h .0, (h .1, (lines c, search needs))))
+
+put-header-line-requires : tie.Need-put-header-line-requires
+put-header-line-requires c κs = two-1 _ (linesFrom 0 _) (room-both (headerLine _ _ _) (linesFrom 0 _) _ (fits c))
+
 pub put-file-spec : {M : Type 1} → statement M
 put-file-spec =
     tie.close
     (tie.spec
-    (λ c κs. header-whole _ (c .before .before .pre))
+    header-fields-requires
     (λ c. search needs)
     (λ c κs. search needs)
-    (λ c κs. let h = c .before .before .header-fields .ensures in (given c .pre, (h .0, (h .1, (lines c, search needs)))))
+    lacks-room-requires
     returns
-    (λ c κs. two-1 _ (linesFrom 0 _) (room-both (headerLine _ _ _) (linesFrom 0 _) _ (fits c)))
+    put-header-line-requires
     put-reads-requires
     (λ c. search needs)
     returns-2)

@@ -47,6 +47,15 @@ put-view-line-requires c κs =
     let turn = read .before in
     coming-room (listing-next (turn .before .loop .inv) (left turn) (read .next-read .ensures .0)) _ _ refl
 
+next-read-requires : tie.Need-next-read-requires
+next-read-requires c κs = let l = c .before in let d = given l in (l .loop .inv .walk, (left c, (d .pre .1 .0, d .pre .1 .1 .0)))
+
+same-length : tie.Need-same-length
+same-length c = c .before .loop .inv .coming .same
+
+returns : tie.Need-returns
+returns c = let d = given (c .before) in coming-done (listing-done (c .before .loop .inv) (omega (arith, c .loop-test .left, reads-of (d .args .header) _ (d .pre .1 .0)))) refl
+
 pub put-reads-spec : {M : Type 1} → statement M
 put-reads-spec =
     tie.close
@@ -55,10 +64,10 @@ put-reads-spec =
     μ-loop
     (λ c κs. search needs)
     loop-holds
-    (λ c κs. let l = c .before in let d = given l in (l .loop .inv .walk, (left c, (d .pre .1 .0, d .pre .1 .1 .0))))
+    next-read-requires
     put-view-line-requires
     (λ c. search needs)
     (λ c. search needs)
     loop-again
-    (λ c. c .before .loop .inv .coming .same)
-    (λ c. let d = given (c .before) in coming-done (listing-done (c .before .loop .inv) (omega (arith, c .loop-test .left, reads-of (d .args .header) _ (d .pre .1 .0)))) refl))
+    same-length
+    returns)

@@ -12,16 +12,25 @@ Inv-loop test s n failed₀ j₀ failed j = Told (passes test) s j failed
 abbrev μ-loop : tie.MeasureT-loop
 μ-loop test s n failed₀ j₀ failed j = length s - j
 
+loop-holds : tie.Need-loop-holds
+loop-holds c = search (told-start, needs)
+
+loop-again : tie.Need-loop-again
+loop-again c = search (told-more, needs)
+
+returns : tie.Need-returns
+returns c = search (told-all, needs)
+
 pub fails-spec : {M : Type 1} → statement M
 fails-spec =
     tie.close
     (tie.spec
     Inv-loop
     μ-loop
-    (λ c. search (told-start, needs))
+    loop-holds
     (λ c. search needs)
     (λ c κs. search needs)
     (λ c. search needs)
     (λ c. search needs)
-    (λ c. search (told-more, needs))
-    (λ c. search (told-all, needs)))
+    loop-again
+    returns)

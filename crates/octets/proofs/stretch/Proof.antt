@@ -6,20 +6,29 @@ use borrow.Author.Needs.{needs}
 use Rattle.octets.proofs.stretch.Statement.{statement}
 use Rattle.octets.proofs.stretch.Tie as tie
 
+returns : tie.Need-returns
+returns c = sym (whole-out _ _ _ (omega arith))
+
+returns-2 : tie.Need-returns-2
+returns-2 c = sym (whole-out _ _ _ (omega arith))
+
+returns-3 : tie.Need-returns-3
+returns-3 c =
+    let a = c .before .before .before .args in
+    let e : a .at + a .n - a .at ≡ a .n = omega arith in
+    rw e (sym (whole-in (a .at) (a .n) (a .s .now) (omega arith)))
+
 pub stretch-spec : {M : Type 1} → statement M
 stretch-spec =
     tie.close
     (tie.spec
     (λ c. search needs)
-    (λ c. sym (whole-out _ _ _ (omega arith)))
+    returns
     (λ c. search needs)
     (λ c. search needs)
-    (λ c. sym (whole-out _ _ _ (omega arith)))
+    returns-2
     (λ c. search needs)
     (λ c. search needs)
     (λ c. search needs)
     (λ c. search needs)
-    (λ c.
-    let a = c .before .before .before .args in
-    let e : a .at + a .n - a .at ≡ a .n = omega arith in
-    rw e (sym (whole-in (a .at) (a .n) (a .s .now) (omega arith)))))
+    returns-3)

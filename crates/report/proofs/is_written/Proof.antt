@@ -4,6 +4,12 @@ use Rattle.report.specs.Report.{isWritten}
 use Rattle.report.proofs.is_written.Statement.{statement}
 use Rattle.report.proofs.is_written.Tie as tie
 
+returns : tie.Need-returns
+returns c = rw (c .enum-told2 .given .1)
+
+returns-2 : tie.Need-returns-2
+returns-2 c = rw (c .before .enum-told .given .1)
+
 pub is-written-spec : {M : Type 1} → statement M
 unfolding isWritten acceptedOr
-is-written-spec = tie.close (tie.spec (λ c. search needs) (λ c. search needs) (λ c. rw (c .enum-told2 .given .1)) (λ c. rw (c .before .enum-told .given .1)))
+is-written-spec = tie.close (tie.spec (λ c. search needs) (λ c. search needs) returns returns-2)

@@ -69,13 +69,22 @@ returns-4 c =
     let g = i .before .loop .inv in
     stop-read g (going-due g (i .index-due .ensures) (r .before .before .if1 .left)) (omega arith) (r .read-test .ensures) (c .enum-told4 .given .1)
 
+loop-holds : tie.Need-loop-holds
+loop-holds c = going-first (c .before .pre .0) (c .before .pre .1 .0)
+
+read-test-requires : tie.Need-read-test-requires
+read-test-requires c κs = (search needs, search needs, going-characters (c .before .before .before .loop .inv))
+
+read-end-requires : tie.Need-read-end-requires
+read-end-requires c κs = (fits-16 _ _ _ (sym (c .before .before .read-test .ensures) ∙ c .enum-told3 .given .1), search needs)
+
 pub sections-test-spec : {M : Type 1} → statement M
 sections-test-spec =
     tie.close
     (tie.spec
     Inv-loop
     μ-loop
-    (λ c. going-first (c .before .pre .0) (c .before .pre .1 .0))
+    loop-holds
     (λ c κs. search needs)
     (λ c κs. search needs)
     (λ c. search needs)
@@ -84,10 +93,10 @@ sections-test-spec =
     add-reads-test
     reads-test-requires
     (λ c κs. search needs)
-    (λ c κs. (search needs, search needs, going-characters (c .before .before .before .loop .inv)))
+    read-test-requires
     (λ c. search needs)
     (λ c. search needs)
-    (λ c κs. (fits-16 _ _ _ (sym (c .before .before .read-test .ensures) ∙ c .enum-told3 .given .1), search needs))
+    read-end-requires
     (λ c. search needs)
     (λ c. search needs)
     loop-again

@@ -14,6 +14,15 @@ returns : tie.Need-returns
 unfolding positionTest
 returns c = search refuses
 
+header-fields-requires : tie.Need-header-fields-requires
+header-fields-requires c κs = fits-31 _ (head-ok _ (sym (c .before .before .file-test .ensures) ∙ c .enum-told .given .1))
+
+returns-2 : tie.Need-returns-2
+returns-2 c = position-none _ _ (sym (c .before .before .before .before .before .file-test .ensures) ∙ c .before .before .before .enum-told .given .1) (rw (reads-of _ _ (c .before .before .header-fields .ensures .0)) (omega arith))
+
+returns-3 : tie.Need-returns-3
+returns-3 c = position-there _ _ (sym (c .before .before .before .before .before .file-test .ensures) ∙ c .before .before .before .enum-told .given .1) (rw (reads-of _ _ (c .before .before .header-fields .ensures .0)) (omega arith))
+
 pub position-test-spec : {M : Type 1} → statement M
 position-test-spec =
     tie.close
@@ -22,6 +31,6 @@ position-test-spec =
     (λ c. search needs)
     (λ c. search needs)
     returns
-    (λ c κs. fits-31 _ (head-ok _ (sym (c .before .before .file-test .ensures) ∙ c .enum-told .given .1)))
-    (λ c. position-none _ _ (sym (c .before .before .before .before .before .file-test .ensures) ∙ c .before .before .before .enum-told .given .1) (rw (reads-of _ _ (c .before .before .header-fields .ensures .0)) (omega arith)))
-    (λ c. position-there _ _ (sym (c .before .before .before .before .before .file-test .ensures) ∙ c .before .before .before .enum-told .given .1) (rw (reads-of _ _ (c .before .before .header-fields .ensures .0)) (omega arith))))
+    header-fields-requires
+    returns-2
+    returns-3)

@@ -6,18 +6,33 @@ use borrow.Author.Needs.{needs}
 use Rattle.sff_header.proofs.fixed_test.Statement.{statement}
 use Rattle.sff_header.proofs.fixed_test.Tie as tie
 
+returns : tie.Need-returns
+returns c = search refusal
+
+returns-2 : tie.Need-returns-2
+returns-2 c = search refusal
+
+returns-3 : tie.Need-returns-3
+returns-3 c = search (refusal, byte-differs)
+
+returns-4 : tie.Need-returns-4
+returns-4 c = search (refusal, byte-is, length-differs)
+
+returns-5 : tie.Need-returns-5
+returns-5 c = search (onward, byte-is, length-is)
+
 pub fixed-test-spec : {M : Type 1} → statement M
 unfolding fixedTest
 fixed-test-spec =
     tie.close
     (tie.spec
     (λ c κs. search needs)
-    (λ c. search refusal)
+    returns
     (λ c κs. search needs)
-    (λ c. search refusal)
+    returns-2
     (λ c. search needs)
-    (λ c. search (refusal, byte-differs))
+    returns-3
     (λ c κs. search needs)
     (λ c κs. search needs)
-    (λ c. search (refusal, byte-is, length-differs))
-    (λ c. search (onward, byte-is, length-is)))
+    returns-4
+    returns-5)

@@ -11,6 +11,22 @@ returns : tie.Need-returns
 unfolding headerTest
 returns c = search refusal
 
+returns-2 : tie.Need-returns-2
+returns-2 c = search (refusal, header-tested)
+
+returns-3 : tie.Need-returns-3
+returns-3 c = search (refusal, header-tested)
+
+characters-test-requires : tie.Need-characters-test-requires
+characters-test-requires c κs =
+    let d = c .before .before in
+    let f = d .before .before in
+    let e = f .before .header-fields .ensures in
+    (e .0, (e .1, (length-good (f .before .header-fields .result) _ (e .0) (sym (f .fixed-test .ensures) ∙ d .enum-told .given .1), search needs)))
+
+returns-4 : tie.Need-returns-4
+returns-4 c = search (onward, header-tested)
+
 pub header-test-spec : {M : Type 1} → statement M
 header-test-spec =
     tie.close
@@ -20,11 +36,7 @@ header-test-spec =
     (λ c κs. search needs)
     (λ c. search needs)
     (λ c. search needs)
-    (λ c. search (refusal, header-tested))
-    (λ c. search (refusal, header-tested))
-    (λ c κs.
-    let d = c .before .before in
-    let f = d .before .before in
-    let e = f .before .header-fields .ensures in
-    (e .0, (e .1, (length-good (f .before .header-fields .result) _ (e .0) (sym (f .fixed-test .ensures) ∙ d .enum-told .given .1), search needs))))
-    (λ c. search (onward, header-tested)))
+    returns-2
+    returns-3
+    characters-test-requires
+    returns-4)

@@ -25,13 +25,25 @@ returns c =
     let h = start .before .header-fields in
     found-is _ _ (given start .pre) _ _ _ _ (sym (flows-of (h .result) _ (h .ensures .0))) (start .past-index .ensures) (after .next-boundary .ensures) (c .read-view .ensures)
 
+header-fields-requires : tie.Need-header-fields-requires
+header-fields-requires c κs = fits-31 _ (header-accepted _ _ (c .before .pre))
+
+past-index-requires : tie.Need-past-index-requires
+past-index-requires c κs = let h = c .header-fields .ensures in (h .0, (h .1, place-inside _ _ (c .before .before .pre)))
+
+next-boundary-requires : tie.Need-next-boundary-requires
+next-boundary-requires c κs = let h = c .before .header-fields .ensures in (h .0, (h .1, found-begins _ _ (given c .pre) (c .past-index .ensures)))
+
+read-view-requires : tie.Need-read-view-requires
+read-view-requires c κs = let start = c .before .before in (found-begins _ _ (given start .pre) (start .past-index .ensures), search needs)
+
 pub found-spec : {M : Type 1} → statement M
 found-spec =
     tie.close
     (tie.spec
-    (λ c κs. fits-31 _ (header-accepted _ _ (c .before .pre)))
-    (λ c κs. let h = c .header-fields .ensures in (h .0, (h .1, place-inside _ _ (c .before .before .pre))))
-    (λ c κs. let h = c .before .header-fields .ensures in (h .0, (h .1, found-begins _ _ (given c .pre) (c .past-index .ensures))))
+    header-fields-requires
+    past-index-requires
+    next-boundary-requires
     add-t9
-    (λ c κs. let start = c .before .before in (found-begins _ _ (given start .pre) (start .past-index .ensures), search needs))
+    read-view-requires
     returns)

@@ -14,7 +14,10 @@ returns-2 : tie.Need-returns-2
 unfolding freshPlace
 returns-2 c = rw (← (c .before .before .before .header-test .ensures), c .before .enum-told .given .1) (sym (length-of (c .header-fields .result) _ (c .header-fields .ensures .0)))
 
+header-fields-requires : tie.Need-header-fields-requires
+header-fields-requires c κs = fits-31 _ (sym (c .before .before .header-test .ensures) ∙ c .enum-told .given .1)
+
 pub fresh-place-spec : {M : Type 1} → statement M
 fresh-place-spec =
     tie.close
-    (tie.spec (λ c κs. search needs) (λ c. search needs) (λ c. search needs) returns (λ c κs. fits-31 _ (sym (c .before .before .header-test .ensures) ∙ c .enum-told .given .1)) returns-2)
+    (tie.spec (λ c κs. search needs) (λ c. search needs) (λ c. search needs) returns header-fields-requires returns-2)

@@ -22,13 +22,16 @@ returns-3 : tie.Need-returns-3
 unfolding readOrNone
 returns-3 c = let d = c .before .before .before .before .before .before in search (tests, accepts, reads-of (d .args .header) _ (d .pre .1 .0))
 
+read-test-requires : tie.Need-read-test-requires
+read-test-requires c κs =
+    let d = c .before .before .before in
+    (search needs, search needs, rw (← (flows-of (d .args .header) _ (d .pre .1 .0))) (characters-fit _ (d .pre .0)))
+
 pub read-or-none-spec : {M : Type 1} → statement M
 read-or-none-spec =
     tie.close
     (tie.spec
-    (λ c κs.
-    let d = c .before .before .before in
-    (search needs, search needs, rw (← (flows-of (d .args .header) _ (d .pre .1 .0))) (characters-fit _ (d .pre .0))))
+    read-test-requires
     returns
     (λ c κs. search needs)
     (λ c. search needs)

@@ -26,6 +26,15 @@ unfolding stepTest _then_ when
 returns-4 c = let h = c .before .before .before .before .before in
     search (tests, ← (h .before .before .before .before .header-test .ensures), h .before .before .enum-told .given .1, ← (c .before .before .before .before .index-test .ensures), c .before .before .enum-told3 .given .1, ← (ap (λ (x : Boundary). x .place) (c .before .past-index .ensures)), ← (ap (λ (x : Boundary). x .passed) (c .before .past-index .ensures)), ← (c .read-or-none .ensures))
 
+header-fields-requires : tie.Need-header-fields-requires
+header-fields-requires c κs = fits-31 _ (sym (c .before .before .before .header-test .ensures) ∙ c .before .enum-told .given .1)
+
+read-or-none-requires : tie.Need-read-or-none-requires
+read-or-none-requires c κs =
+    let h = c .before .before .before .before in
+    let i = past-fits _ _ _ (h .before .if1 .left) (sym (c .before .before .before .index-test .ensures) ∙ c .before .enum-told3 .given .1) in
+    (sym (h .before .before .before .before .header-test .ensures) ∙ h .before .before .enum-told .given .1, (h .header-fields .ensures .0, (h .header-fields .ensures .1, rw (c .past-index .ensures) i)))
+
 pub step-test-spec : {M : Type 1} → statement M
 step-test-spec =
     tie.close
@@ -35,14 +44,11 @@ step-test-spec =
     (λ c. search needs)
     returns
     returns-2
-    (λ c κs. fits-31 _ (sym (c .before .before .before .header-test .ensures) ∙ c .before .enum-told .given .1))
+    header-fields-requires
     (λ c κs. search needs)
     (λ c. search needs)
     (λ c. search needs)
     returns-3
     (λ c κs. search needs)
-    (λ c κs.
-    let h = c .before .before .before .before in
-    let i = past-fits _ _ _ (h .before .if1 .left) (sym (c .before .before .before .index-test .ensures) ∙ c .before .enum-told3 .given .1) in
-    (sym (h .before .before .before .before .header-test .ensures) ∙ h .before .before .enum-told .given .1, (h .header-fields .ensures .0, (h .header-fields .ensures .1, rw (c .past-index .ensures) i))))
+    read-or-none-requires
     returns-4)

@@ -6,20 +6,32 @@ use borrow.Author.Needs.{needs}
 use Rattle.sff_record.proofs.name_field_test.Statement.{statement}
 use Rattle.sff_record.proofs.name_field_test.Tie as tie
 
+returns : tie.Need-returns
+returns c = search refusal
+
+returns-2 : tie.Need-returns-2
+returns-2 c = search refusal
+
+returns-3 : tie.Need-returns-3
+returns-3 c = search (refusal, stretch)
+
+returns-4 : tie.Need-returns-4
+returns-4 c = search (onward, stretch, zeros-after)
+
 pub name-field-test-spec : {M : Type 1} → statement M
 unfolding nameFieldTest
 name-field-test-spec =
     tie.close
     (tie.spec
-    (λ c. search refusal)
-    (λ c. search refusal)
+    returns
+    returns-2
     (λ c. search needs)
     (λ c. search needs)
     (λ c. search needs)
     (λ c. search needs)
     (λ c κs. search needs)
-    (λ c. search (refusal, stretch))
+    returns-3
     (λ c. search needs)
     (λ c. search needs)
     (λ c κs. search needs)
-    (λ c. search (onward, stretch, zeros-after)))
+    returns-4)

@@ -6,6 +6,12 @@ use borrow.Author.Needs.{needs}
 use Rattle.sff_record.proofs.new_clips_test.Statement.{statement}
 use Rattle.sff_record.proofs.new_clips_test.Tie as tie
 
+returns : tie.Need-returns
+returns c = search (used, eq-eqb)
+
+returns-2 : tie.Need-returns-2
+returns-2 c = search (unused, ne-eqb)
+
 pub new-clips-test-spec : {M : Type 1} → statement M
 unfolding newClipsTest
-new-clips-test-spec = tie.close (tie.spec (λ c. search needs) (λ c. search (used, eq-eqb)) (λ c κs. search needs) (λ c. search (unused, ne-eqb)))
+new-clips-test-spec = tie.close (tie.spec (λ c. search needs) returns (λ c κs. search needs) returns-2)

@@ -7,6 +7,15 @@ use borrow.Author.Needs.{needs}
 use Rattle.sff_record.proofs.new_name_test.Statement.{statement}
 use Rattle.sff_record.proofs.new_name_test.Tie as tie
 
+returns : tie.Need-returns
+returns c = search (used, name-tested, eq-eqb)
+
+returns-2 : tie.Need-returns-2
+returns-2 c = search (unused, refuses, ne-eqb)
+
+returns-3 : tie.Need-returns-3
+returns-3 c = search (unused, accepts, ne-eqb)
+
 pub new-name-test-spec : {M : Type 1} → statement M
 unfolding newNameTest
 new-name-test-spec =
@@ -16,10 +25,10 @@ new-name-test-spec =
     (λ c. search needs)
     (λ c κs. search needs)
     (λ c κs. search needs)
-    (λ c. search (used, name-tested, eq-eqb))
+    returns
     (λ c κs. search needs)
     (λ c. search needs)
     (λ c. search needs)
-    (λ c. search (unused, refuses, ne-eqb))
+    returns-2
     (λ c κs. search needs)
-    (λ c. search (unused, accepts, ne-eqb)))
+    returns-3)

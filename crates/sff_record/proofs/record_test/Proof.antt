@@ -6,29 +6,50 @@ use borrow.Author.Needs.{needs}
 use Rattle.sff_record.proofs.record_test.Statement.{statement}
 use Rattle.sff_record.proofs.record_test.Tie as tie
 
+returns : tie.Need-returns
+returns c = search refusal
+
+returns-2 : tie.Need-returns-2
+returns-2 c = search refusal
+
+returns-3 : tie.Need-returns-3
+returns-3 c = search refusal
+
+returns-4 : tie.Need-returns-4
+returns-4 c = search refusal depth 9
+
+returns-5 : tie.Need-returns-5
+returns-5 c = search (refusal, name-refuses) depth 9
+
+returns-6 : tie.Need-returns-6
+returns-6 c = search (refusal, name-accepts) depth 9
+
+returns-7 : tie.Need-returns-7
+returns-7 c = search (onward, name-accepts) depth 9
+
 pub record-test-spec : {M : Type 1} → statement M
 unfolding recordTest
 record-test-spec =
     tie.close
     (tie.spec
-    (λ c. search refusal)
+    returns
     (λ c. search needs)
-    (λ c. search refusal)
+    returns-2
     (λ c. search needs)
-    (λ c. search refusal)
+    returns-3
     (λ c κs. search needs)
     (λ c. search needs)
     (λ c. search needs)
-    (λ c. search refusal depth 9)
+    returns-4
     (λ c. search needs)
     (λ c κs. search needs)
     (λ c κs. search needs)
     (λ c. search needs)
     (λ c. search needs)
-    (λ c. search (refusal, name-refuses) depth 9)
+    returns-5
     (λ c κs. search needs)
     (λ c. search needs)
     (λ c. search needs)
-    (λ c. search (refusal, name-accepts) depth 9)
+    returns-6
     (λ c κs. search needs)
-    (λ c. search (onward, name-accepts) depth 9))
+    returns-7)

@@ -6,8 +6,14 @@ use borrow.Author.Needs.{needs}
 use Rattle.sff_record.proofs.unused_test.Statement.{statement}
 use Rattle.sff_record.proofs.unused_test.Tie as tie
 
+returns : tie.Need-returns
+returns c = search (refusal, stretch)
+
+returns-2 : tie.Need-returns-2
+returns-2 c = search (onward, stretch)
+
 pub unused-test-spec : {M : Type 1} → statement M
 unfolding unusedTest
 unused-test-spec =
     tie.close
-    (tie.spec (λ c. search needs) (λ c. search needs) (λ c. search needs) (λ c. search needs) (λ c κs. search needs) (λ c. search (refusal, stretch)) (λ c. search (onward, stretch)))
+    (tie.spec (λ c. search needs) (λ c. search needs) (λ c. search needs) (λ c. search needs) (λ c κs. search needs) returns returns-2)

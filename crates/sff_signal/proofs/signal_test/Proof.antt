@@ -13,6 +13,19 @@ returns : tie.Need-returns
 unfolding signalTest
 returns c = search refuses
 
+header-fields-requires : tie.Need-header-fields-requires
+header-fields-requires c κs = fits-31 _ (head-ok _ (position-file _ _ (sym (c .before .before .position-test .ensures) ∙ c .enum-told .given .1)))
+
+returns-2 : tie.Need-returns-2
+returns-2 c =
+    let e = sym (c .before .before .before .before .before .position-test .ensures) ∙ c .before .before .before .enum-told .given .1 in
+    signal-none _ _ e (flows-of _ _ (c .before .before .header-fields .ensures .0) ∙ c .if1 .taken)
+
+returns-3 : tie.Need-returns-3
+returns-3 c =
+    let e = sym (c .before .before .before .before .before .position-test .ensures) ∙ c .before .before .before .enum-told .given .1 in
+    signal-there _ _ e (λ z. c .if1 .left (sym (flows-of _ _ (c .before .before .header-fields .ensures .0)) ∙ z))
+
 pub signal-test-spec : {M : Type 1} → statement M
 signal-test-spec =
     tie.close
@@ -21,10 +34,6 @@ signal-test-spec =
     (λ c. search needs)
     (λ c. search needs)
     returns
-    (λ c κs. fits-31 _ (head-ok _ (position-file _ _ (sym (c .before .before .position-test .ensures) ∙ c .enum-told .given .1))))
-    (λ c.
-    let e = sym (c .before .before .before .before .before .position-test .ensures) ∙ c .before .before .before .enum-told .given .1 in
-    signal-none _ _ e (flows-of _ _ (c .before .before .header-fields .ensures .0) ∙ c .if1 .taken))
-    (λ c.
-    let e = sym (c .before .before .before .before .before .position-test .ensures) ∙ c .before .before .before .enum-told .given .1 in
-    signal-there _ _ e (λ z. c .if1 .left (sym (flows-of _ _ (c .before .before .header-fields .ensures .0)) ∙ z))))
+    header-fields-requires
+    returns-2
+    returns-3)

@@ -28,6 +28,30 @@ fits c =
     let bytes = bytes-of (start c .args .buffer .now) (λ j. entered (c .before .before) .slice-known .given j .fits) in
     append-fits _ _ _ (search) (c .enum-told .given .1) bytes
 
+returns : tie.Need-returns
+returns c = append-refused _ _ _ (search) (c .enum-told2 .given .1)
+
+get32-requires : tie.Need-get32-requires
+get32-requires c κs = let f = fits (c .before) in search needs
+
+put-read-requires : tie.Need-put-read-requires
+put-read-requires c κs = let f = fits (c .before .before .before) in search needs
+
+put32-requires : tie.Need-put32-requires
+put32-requires c κs = let f = fits (accepted (c .before .before .before)) in search needs
+
+read-size-requires : tie.Need-read-size-requires
+read-size-requires c κs = let f = fits (counted c) in search needs
+
+add-t21 : tie.Need-add-t21
+add-t21 c =
+    let f = fits (counted (c .before)) in
+    let s = start (counted (c .before)) in
+    let q : length (s .args .buffer .now) < 18446744073709551616 = s .good .0 .0 in search needs
+
+returns-2 : tie.Need-returns-2
+returns-2 c = (search append-outcome, search append-buffer)
+
 pub append-spec : {M : Type 1} → statement M
 append-spec =
     tie.close
@@ -36,15 +60,12 @@ append-spec =
     (λ c. search needs)
     (λ c. search needs)
     (λ c. search needs)
-    (λ c. append-refused _ _ _ (search) (c .enum-told2 .given .1))
-    (λ c κs. let f = fits (c .before) in search needs)
-    (λ c κs. let f = fits (c .before .before .before) in search needs)
+    returns
+    get32-requires
+    put-read-requires
     (λ c. search needs)
-    (λ c κs. let f = fits (accepted (c .before .before .before)) in search needs)
-    (λ c κs. let f = fits (counted c) in search needs)
-    (λ c.
-    let f = fits (counted (c .before)) in
-    let s = start (counted (c .before)) in
-    let q : length (s .args .buffer .now) < 18446744073709551616 = s .good .0 .0 in search needs)
+    put32-requires
+    read-size-requires
+    add-t21
     (λ c. search needs)
-    (λ c. (search append-outcome, search append-buffer)))
+    returns-2)

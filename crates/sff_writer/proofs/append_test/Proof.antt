@@ -18,26 +18,47 @@ returns-2 : tie.Need-returns-2
 unfolding appendTest
 returns-2 c = search refusal
 
+slice-aggregate-file : tie.Need-slice-aggregate-file
+slice-aggregate-file c = sym (length-take-le _ _ (c .before .if1 .left))
+
+header-fields-requires : tie.Need-header-fields-requires
+header-fields-requires c κs = search open-header
+
+part-given-test-end : tie.Need-part-given-test-end
+part-given-test-end c = search open-characters
+
+returns-3 : tie.Need-returns-3
+returns-3 c = search (refusal, append-tested)
+
+read-size-requires : tie.Need-read-size-requires
+read-size-requires c κs = given-bounds _ _ (c .before .before .given-test .ensures) (c .enum-told3 .given .1) (omega arith)
+
+returns-4 : tie.Need-returns-4
+returns-4 c = search (refusal, append-tested, read-over) depth 9
+
+returns-5 : tie.Need-returns-5
+returns-5 c = search (onward, append-tested, read-within) depth 9
+
 pub append-test-spec : {M : Type 1} → statement M
 append-test-spec =
     tie.close
     (tie.spec
     returns
-    (λ c. sym (length-take-le _ _ (c .before .if1 .left)))
+    slice-aggregate-file
     (λ c κs. search needs)
     (λ c. search needs)
     (λ c. search needs)
     returns-2
-    (λ c κs. search open-header)
+    header-fields-requires
     (λ c. search needs)
     (λ c. search needs)
     (λ c. search needs)
-    (λ c. search open-characters)
+    part-given-test-end
     (λ c κs. search needs)
     (λ c. search needs)
     (λ c. search needs)
-    (λ c. search (refusal, append-tested))
+    returns-3
     (λ c. search needs)
-    (λ c κs. given-bounds _ _ (c .before .before .given-test .ensures) (c .enum-told3 .given .1) (omega arith))
-    (λ c. search (refusal, append-tested, read-over) depth 9)
-    (λ c. search (onward, append-tested, read-within) depth 9))
+    read-size-requires
+    returns-4
+    returns-5)

@@ -4,6 +4,18 @@ use borrow.Author.Needs.{needs}
 use Rattle.sff_writer.proofs.new_file.Statement.{statement}
 use Rattle.sff_writer.proofs.new_file.Tie as tie
 
+returns : tie.Need-returns
+returns c = new-refused _ _ _ (search) (c .enum-told2 .given .1)
+
+put-new-header-requires : tie.Need-put-new-header-requires
+put-new-header-requires c κs = search (new-small, new-room)
+
+header-size-requires : tie.Need-header-size-requires
+header-size-requires c κs = search new-small
+
+returns-2 : tie.Need-returns-2
+returns-2 c = new-done _ _ _ (search) (search) (search) (search)
+
 pub new-file-spec : {M : Type 1} → statement M
 new-file-spec =
     tie.close
@@ -11,8 +23,8 @@ new-file-spec =
     (λ c κs. search needs)
     (λ c. search needs)
     (λ c. search needs)
-    (λ c. new-refused _ _ _ (search) (c .enum-told2 .given .1))
-    (λ c κs. search (new-small, new-room))
-    (λ c κs. search new-small)
+    returns
+    put-new-header-requires
+    header-size-requires
     (λ c. search needs)
-    (λ c. new-done _ _ _ (search) (search) (search) (search)))
+    returns-2)

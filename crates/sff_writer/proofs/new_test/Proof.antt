@@ -6,17 +6,32 @@ use borrow.Author.Needs.{needs}
 use Rattle.sff_writer.proofs.new_test.Statement.{statement}
 use Rattle.sff_writer.proofs.new_test.Tie as tie
 
+returns : tie.Need-returns
+returns c = search (refusal, over-first)
+
+returns-2 : tie.Need-returns-2
+returns-2 c = search (refusal, over-second)
+
+returns-3 : tie.Need-returns-3
+returns-3 c = search (refusal, not-over, either-told)
+
+returns-4 : tie.Need-returns-4
+returns-4 c = search (refusal, not-over, either-told, new-over)
+
+returns-5 : tie.Need-returns-5
+returns-5 c = search (onward, not-over, either-told, new-within)
+
 pub new-test-spec : {M : Type 1} → statement M
 unfolding newTest
 new-test-spec =
     tie.close
     (tie.spec
-    (λ c. search (refusal, over-first))
+    returns
     (λ c. search needs)
-    (λ c. search (refusal, over-second))
+    returns-2
     (λ c κs. search needs)
     (λ c κs. search needs)
-    (λ c. search (refusal, not-over, either-told))
+    returns-3
     (λ c κs. search needs)
-    (λ c. search (refusal, not-over, either-told, new-over))
-    (λ c. search (onward, not-over, either-told, new-within)))
+    returns-4
+    returns-5)

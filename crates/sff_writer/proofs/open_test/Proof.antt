@@ -13,6 +13,18 @@ returns : tie.Need-returns
 unfolding openTest
 returns c = search refusal
 
+header-fields-requires : tie.Need-header-fields-requires
+header-fields-requires c κs = fits-31 _ (head-ok _ (sym (c .before .before .file-test .ensures) ∙ c .enum-told .given .1))
+
+returns-2 : tie.Need-returns-2
+returns-2 c = search (refusal, open-tested)
+
+returns-3 : tie.Need-returns-3
+returns-3 c = search (refusal, open-tested)
+
+returns-4 : tie.Need-returns-4
+returns-4 c = search (onward, open-tested)
+
 pub open-test-spec : {M : Type 1} → statement M
 open-test-spec =
     tie.close
@@ -21,8 +33,8 @@ open-test-spec =
     (λ c. search needs)
     (λ c. search needs)
     returns
-    (λ c κs. fits-31 _ (head-ok _ (sym (c .before .before .file-test .ensures) ∙ c .enum-told .given .1)))
+    header-fields-requires
     (λ c κs. search needs)
-    (λ c. search (refusal, open-tested))
-    (λ c. search (refusal, open-tested))
-    (λ c. search (onward, open-tested)))
+    returns-2
+    returns-3
+    returns-4)

@@ -9,6 +9,12 @@ Inv-loop n i₀ i = Unit {0}
 abbrev μ-loop : tie.MeasureT-loop
 μ-loop n i₀ i = n - i
 
+loop-holds : tie.Need-loop-holds
+loop-holds c = tt
+
+loop-again : tie.Need-loop-again
+loop-again c = tt
+
 pub main-spec : {M : Type 1} → statement M
 main-spec =
     tie.close
@@ -16,9 +22,9 @@ main-spec =
     Inv-loop
     μ-loop
     (λ c κs. search needs)
-    (λ c. tt)
+    loop-holds
     (λ c κs. search needs)
     (λ c. search needs)
     (λ c. search needs)
-    (λ c. tt)
+    loop-again
     (λ c. search needs))

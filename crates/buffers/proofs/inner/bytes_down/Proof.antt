@@ -12,21 +12,51 @@ Inv-loop s₀ from to n j₀ s j = Up to n (part from n s₀) s₀ s j
 abbrev μ-loop : tie.MeasureT-loop
 μ-loop s₀ from to n j₀ s j = n - j
 
+loop-holds : tie.Need-loop-holds
+loop-holds c =
+    let a = c .args in
+    up-start _ _ _ _ (length-part (a .from) (a .n) (a .s .now) (omega arith)) (omega arith)
+
+add-s : tie.Need-add-s
+add-s c = search moves
+
+slice-read-s : tie.Need-slice-read-s
+slice-read-s c = search moves
+
+add-s-2 : tie.Need-add-s-2
+add-s-2 c = search moves
+
+slice-write-s : tie.Need-slice-write-s
+slice-write-s c = search moves
+
+add-j : tie.Need-add-j
+add-j c = search moves
+
+loop-less : tie.Need-loop-less
+loop-less c = search moves
+
+loop-again : tie.Need-loop-again
+loop-again c = search moves
+
+same-length : tie.Need-same-length
+same-length c = search moves
+
+returns : tie.Need-returns
+returns c = search moves
+
 pub bytes-down-spec : {M : Type 1} → statement M
 bytes-down-spec =
     tie.close
     (tie.spec
     Inv-loop
     μ-loop
-    (λ c.
-    let a = c .args in
-    up-start _ _ _ _ (length-part (a .from) (a .n) (a .s .now) (omega arith)) (omega arith))
-    (λ c. search moves)
-    (λ c. search moves)
-    (λ c. search moves)
-    (λ c. search moves)
-    (λ c. search moves)
-    (λ c. search moves)
-    (λ c. search moves)
-    (λ c. search moves)
-    (λ c. search moves))
+    loop-holds
+    add-s
+    slice-read-s
+    add-s-2
+    slice-write-s
+    add-j
+    loop-less
+    loop-again
+    same-length
+    returns)

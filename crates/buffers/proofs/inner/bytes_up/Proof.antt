@@ -11,21 +11,51 @@ Inv-loop s₀ from to n j₀ s j = Down to n (part from n s₀) s₀ s j
 abbrev μ-loop : tie.MeasureT-loop
 μ-loop s₀ from to n j₀ s j = j
 
+loop-holds : tie.Need-loop-holds
+loop-holds c =
+    let a = c .args in
+    down-start _ _ _ _ (length-part (a .from) (a .n) (a .s .now) (omega arith)) (omega arith)
+
+sub-j : tie.Need-sub-j
+sub-j c = search moves
+
+add-s : tie.Need-add-s
+add-s c = search moves
+
+slice-read-s : tie.Need-slice-read-s
+slice-read-s c = search moves
+
+add-s-2 : tie.Need-add-s-2
+add-s-2 c = search moves
+
+slice-write-s : tie.Need-slice-write-s
+slice-write-s c = search moves
+
+loop-less : tie.Need-loop-less
+loop-less c = search moves
+
+loop-again : tie.Need-loop-again
+loop-again c = search moves
+
+same-length : tie.Need-same-length
+same-length c = search moves
+
+returns : tie.Need-returns
+returns c = search moves
+
 pub bytes-up-spec : {M : Type 1} → statement M
 bytes-up-spec =
     tie.close
     (tie.spec
     Inv-loop
     μ-loop
-    (λ c.
-    let a = c .args in
-    down-start _ _ _ _ (length-part (a .from) (a .n) (a .s .now) (omega arith)) (omega arith))
-    (λ c. search moves)
-    (λ c. search moves)
-    (λ c. search moves)
-    (λ c. search moves)
-    (λ c. search moves)
-    (λ c. search moves)
-    (λ c. search moves)
-    (λ c. search moves)
-    (λ c. search moves))
+    loop-holds
+    sub-j
+    add-s
+    slice-read-s
+    add-s-2
+    slice-write-s
+    loop-less
+    loop-again
+    same-length
+    returns)

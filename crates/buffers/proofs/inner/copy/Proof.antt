@@ -12,22 +12,52 @@ Inv-loop s₀ at source from n j₀ s j = Up at n (part from n source) s₀ s j
 abbrev μ-loop : tie.MeasureT-loop
 μ-loop s₀ at source from n j₀ s j = n - j
 
+loop-holds : tie.Need-loop-holds
+loop-holds c = search moves
+
+add-s : tie.Need-add-s
+add-s c = search moves
+
+shared-slice-read-s : tie.Need-shared-slice-read-s
+shared-slice-read-s c = search moves
+
+add-s-2 : tie.Need-add-s-2
+add-s-2 c = search moves
+
+slice-write-s : tie.Need-slice-write-s
+slice-write-s c = search moves
+
+add-j : tie.Need-add-j
+add-j c = search moves
+
+loop-less : tie.Need-loop-less
+loop-less c = search moves
+
+loop-again : tie.Need-loop-again
+loop-again c =
+    let l = c .before .before in
+    let a = l .before .args in
+    up-more (l .loop .inv) (omega arith) _ (part-value (a .from) (a .n) (a .source .now) (l .loop .j) (omega arith))
+
+same-length : tie.Need-same-length
+same-length c = search moves
+
+returns : tie.Need-returns
+returns c = search moves
+
 pub copy-spec : {M : Type 1} → statement M
 copy-spec =
     tie.close
     (tie.spec
     Inv-loop
     μ-loop
-    (λ c. search moves)
-    (λ c. search moves)
-    (λ c. search moves)
-    (λ c. search moves)
-    (λ c. search moves)
-    (λ c. search moves)
-    (λ c. search moves)
-    (λ c.
-    let l = c .before .before in
-    let a = l .before .args in
-    up-more (l .loop .inv) (omega arith) _ (part-value (a .from) (a .n) (a .source .now) (l .loop .j) (omega arith)))
-    (λ c. search moves)
-    (λ c. search moves))
+    loop-holds
+    add-s
+    shared-slice-read-s
+    add-s-2
+    slice-write-s
+    add-j
+    loop-less
+    loop-again
+    same-length
+    returns)

@@ -12,21 +12,48 @@ Inv-loop s₀ from to v n j₀ s j = Up from n (replicate n v) s₀ s j
 abbrev μ-loop : tie.MeasureT-loop
 μ-loop s₀ from to v n j₀ s j = n - j
 
+sub-n : tie.Need-sub-n
+sub-n c = search moves
+
+loop-holds : tie.Need-loop-holds
+loop-holds c = up-start _ _ _ _ (length-replicate _ _) (omega arith)
+
+add-s : tie.Need-add-s
+add-s c = search moves
+
+slice-write-s : tie.Need-slice-write-s
+slice-write-s c = search moves
+
+add-j : tie.Need-add-j
+add-j c = search moves
+
+loop-less : tie.Need-loop-less
+loop-less c = search moves
+
+loop-again : tie.Need-loop-again
+loop-again c =
+    let l = c .before in
+    let a = l .before .args in
+    up-more (l .loop .inv) (omega arith) _ (same-value (a .to - a .from) (l .loop .j) (a .v) (omega arith))
+
+same-length : tie.Need-same-length
+same-length c = search moves
+
+returns : tie.Need-returns
+returns c = search moves
+
 pub fill-spec : {M : Type 1} → statement M
 fill-spec =
     tie.close
     (tie.spec
     Inv-loop
     μ-loop
-    (λ c. search moves)
-    (λ c. up-start _ _ _ _ (length-replicate _ _) (omega arith))
-    (λ c. search moves)
-    (λ c. search moves)
-    (λ c. search moves)
-    (λ c. search moves)
-    (λ c.
-    let l = c .before in
-    let a = l .before .args in
-    up-more (l .loop .inv) (omega arith) _ (same-value (a .to - a .from) (l .loop .j) (a .v) (omega arith)))
-    (λ c. search moves)
-    (λ c. search moves))
+    sub-n
+    loop-holds
+    add-s
+    slice-write-s
+    add-j
+    loop-less
+    loop-again
+    same-length
+    returns)

@@ -6,6 +6,12 @@ use Rattle.octets.proofs.Moves.{moved-through}
 use Rattle.buffers.proofs.inner.move_block.Statement.{statement}
 use Rattle.buffers.proofs.inner.move_block.Tie as tie
 
+returns : tie.Need-returns
+returns c =
+    let d = c .before .before in
+    let a = d .before .before .before .before .before .before .before .before .args in
+    moved-through (a .from) (a .to) 16384 (replicate 16384 0) (a .s .now) (length-replicate {A = ℕ} 16384 0) (omega arith) (d .before .before .before .before .copy .ensures) (d .copy2 .ensures)
+
 pub move-block-spec : {M : Type 1} → statement M
 move-block-spec =
     tie.close
@@ -15,7 +21,4 @@ move-block-spec =
     (λ c. search needs)
     (λ c κs. search needs)
     (λ c. search needs)
-    (λ c.
-    let d = c .before .before in
-    let a = d .before .before .before .before .before .before .before .before .args in
-    moved-through (a .from) (a .to) 16384 (replicate 16384 0) (a .s .now) (length-replicate {A = ℕ} 16384 0) (omega arith) (d .before .before .before .before .copy .ensures) (d .copy2 .ensures)))
+    returns)

@@ -12,20 +12,47 @@ Inv-loop s₀ from to n j₀ s j = Down to n (part from n s₀) s₀ s j
 abbrev μ-loop : tie.MeasureT-loop
 μ-loop s₀ from to n j₀ s j = j
 
+loop-holds : tie.Need-loop-holds
+loop-holds c =
+    let a = c .before .args in
+    down-start _ _ _ _ (length-part (a .from) (a .n) (a .s .now) (omega arith)) (omega arith)
+
+add-move-block : tie.Need-add-move-block
+add-move-block c = search moves
+
+add-move-block-2 : tie.Need-add-move-block-2
+add-move-block-2 c = search moves
+
+move-block-requires : tie.Need-move-block-requires
+move-block-requires c κs = search moves
+
+loop-less : tie.Need-loop-less
+loop-less c = search moves
+
+loop-again : tie.Need-loop-again
+loop-again c = let l = c .before .before .before .before in down-block (l .before .loop .inv) (omega arith) 16384 (l .loop-test .taken) (c .before .before .move-block .ensures)
+
+bytes-up-requires : tie.Need-bytes-up-requires
+bytes-up-requires c κs = search moves
+
+same-length : tie.Need-same-length
+same-length c = search moves
+
+returns : tie.Need-returns
+returns c = search (down-last, needs)
+
 pub move-up-spec : {M : Type 1} → statement M
 move-up-spec =
     tie.close
     (tie.spec
     Inv-loop
     μ-loop
-    (λ c.
-    let a = c .before .args in
-    down-start _ _ _ _ (length-part (a .from) (a .n) (a .s .now) (omega arith)) (omega arith))
-    (λ c. search moves)
-    (λ c. search moves)
-    (λ c κs. search moves)
-    (λ c. search moves)
-    (λ c. let l = c .before .before .before .before in down-block (l .before .loop .inv) (omega arith) 16384 (l .loop-test .taken) (c .before .before .move-block .ensures))
-    (λ c κs. search moves)
-    (λ c. search moves)
-    (λ c. search (down-last, needs)))
+    loop-holds
+    add-move-block
+    add-move-block-2
+    move-block-requires
+    loop-less
+    loop-again
+    bytes-up-requires
+    same-length
+    returns)

@@ -11,24 +11,69 @@ Inv-loop s₀ at values n j₀ s j = Worded at values s₀ s j
 abbrev μ-loop : tie.MeasureT-loop
 μ-loop s₀ at values n j₀ s j = length values - j
 
+loop-holds : tie.Need-loop-holds
+loop-holds c = search wording
+
+mul-v : tie.Need-mul-v
+mul-v c = search wording
+
+shared-slice-read-v : tie.Need-shared-slice-read-v
+shared-slice-read-v c = search wording
+
+mul-place : tie.Need-mul-place
+mul-place c = search wording
+
+add-place : tie.Need-add-place
+add-place c = search wording
+
+cast-s : tie.Need-cast-s
+cast-s c = search wording
+
+slice-write-s : tie.Need-slice-write-s
+slice-write-s c = search wording
+
+cast-s-2 : tie.Need-cast-s-2
+cast-s-2 c = search wording
+
+add-s : tie.Need-add-s
+add-s c = search wording
+
+slice-write-s-2 : tie.Need-slice-write-s-2
+slice-write-s-2 c = simp length-set (omega arith)
+
+add-j : tie.Need-add-j
+add-j c = search wording
+
+loop-less : tie.Need-loop-less
+loop-less c = search wording
+
+loop-again : tie.Need-loop-again
+loop-again c = search wording
+
+same-length : tie.Need-same-length
+same-length c = search wording
+
+returns : tie.Need-returns
+returns c = search wording
+
 pub put-words-spec : {M : Type 1} → statement M
 put-words-spec =
     tie.close
     (tie.spec
     Inv-loop
     μ-loop
-    (λ c. search wording)
-    (λ c. search wording)
-    (λ c. search wording)
-    (λ c. search wording)
-    (λ c. search wording)
-    (λ c. search wording)
-    (λ c. search wording)
-    (λ c. search wording)
-    (λ c. search wording)
-    (λ c. simp length-set (omega arith))
-    (λ c. search wording)
-    (λ c. search wording)
-    (λ c. search wording)
-    (λ c. search wording)
-    (λ c. search wording))
+    loop-holds
+    mul-v
+    shared-slice-read-v
+    mul-place
+    add-place
+    cast-s
+    slice-write-s
+    cast-s-2
+    add-s
+    slice-write-s-2
+    add-j
+    loop-less
+    loop-again
+    same-length
+    returns)

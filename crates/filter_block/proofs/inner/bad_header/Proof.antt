@@ -24,13 +24,16 @@ returns-5 : tie.Need-returns-5
 unfolding badHeader
 returns-5 c = rw (c .enum-told3 .given .1)
 
+bad-delta-header-requires : tie.Need-bad-delta-header-requires
+bad-delta-header-requires c κs = let s = c .before .before .before .before in told-fits (s .args .filter) _ (s .args .block .now) (c .before .filter .given .1) (s .pre)
+
 pub bad-header-spec : {M : Type 1} → statement M
 bad-header-spec =
     tie.close
     (tie.spec
     (λ c. search needs)
     (λ c. search needs)
-    (λ c κs. let s = c .before .before .before .before in told-fits (s .args .filter) _ (s .args .block .now) (c .before .filter .given .1) (s .pre))
+    bad-delta-header-requires
     (λ c. search needs)
     (λ c. search needs)
     (λ c. search needs)

@@ -6,14 +6,23 @@ use Rattle.filter_block.specs.Tests.{dataTest}
 use Rattle.filter_block.proofs.inner.contents_test.Statement.{statement}
 use Rattle.filter_block.proofs.inner.contents_test.Tie as tie
 
+returns : tie.Need-returns
+returns c = search refusal
+
+returns-2 : tie.Need-returns-2
+returns-2 c = search refusal
+
+returns-3 : tie.Need-returns-3
+returns-3 c = search onward
+
 pub contents-test-spec : {M : Type 1} → statement M
 unfolding contentsTest dataTest
 contents-test-spec =
     tie.close
     (tie.spec
     (λ c κs. search needs)
-    (λ c. search refusal)
+    returns
     (λ c κs. search needs)
-    (λ c. search refusal)
+    returns-2
     (λ c κs. search needs)
-    (λ c. search onward))
+    returns-3)

@@ -32,6 +32,24 @@ sub-room-test-2 : tie.Need-sub-room-test-2
 unfolding headerLength
 sub-room-test-2 c = omega (arith, known (c .before .before .before) (c .enum-told2 .given .1) .1)
 
+delta-test-requires : tie.Need-delta-test-requires
+delta-test-requires c κs = known (c .before .before .before .before) (c .before .filter .given .1)
+
+returns : tie.Need-returns
+returns c = let s = c .before .before .before .before in tested s (c .before .enum-told .given .1) (c .room-test .ensures ∙ raw-data (s .args .room) (s .args .block .now))
+
+returns-2 : tie.Need-returns-2
+returns-2 c = tested (c .before .before .before .before .before) (c .before .before .filter .given .1) (c .delta-test .ensures)
+
+returns-3 : tie.Need-returns-3
+returns-3 c = tested (c .before .before .before .before .before) (c .before .before .filter2 .given .1) (c .narrow-test .ensures)
+
+returns-4 : tie.Need-returns-4
+returns-4 c = let s = c .before .before .before .before in tested s (c .before .enum-told2 .given .1) (c .room-test2 .ensures ∙ follow-data (s .args .room) (s .args .block .now))
+
+returns-5 : tie.Need-returns-5
+returns-5 c = let s = c .before .before .before in tested s (c .enum-told3 .given .1) (other-data (s .args .room) (s .args .block .now))
+
 pub data-test-spec : {M : Type 1} → statement M
 data-test-spec =
     tie.close
@@ -40,15 +58,15 @@ data-test-spec =
     sub-room-test
     (λ c κs. search needs)
     (λ c. search needs)
-    (λ c κs. known (c .before .before .before .before) (c .before .filter .given .1))
+    delta-test-requires
     (λ c. search needs)
     narrow-test-requires
     (λ c. search needs)
     sub-room-test-2
     (λ c κs. search needs)
     (λ c. search needs)
-    (λ c. let s = c .before .before .before .before in tested s (c .before .enum-told .given .1) (c .room-test .ensures ∙ raw-data (s .args .room) (s .args .block .now)))
-    (λ c. tested (c .before .before .before .before .before) (c .before .before .filter .given .1) (c .delta-test .ensures))
-    (λ c. tested (c .before .before .before .before .before) (c .before .before .filter2 .given .1) (c .narrow-test .ensures))
-    (λ c. let s = c .before .before .before .before in tested s (c .before .enum-told2 .given .1) (c .room-test2 .ensures ∙ follow-data (s .args .room) (s .args .block .now)))
-    (λ c. let s = c .before .before .before in tested s (c .enum-told3 .given .1) (other-data (s .args .room) (s .args .block .now))))
+    returns
+    returns-2
+    returns-3
+    returns-4
+    returns-5)

@@ -12,6 +12,15 @@ use Rattle.filter_block.proofs.inner.delta_test.Tie as tie
 long : (c : tie.After-header-length) → let a = c .before .before .args in let b = a .block .now in length b - c .header-length .result ≡ length b - headerLength (Delta (a .w))
 long c = ap (λ (h : ℕ). length (c .before .before .args .block .now) - h) (c .header-length .ensures .0)
 
+returns : tie.Need-returns
+returns c = let a = c .before .before .before .args in delta-broken (a .room) (a .block .now) (a .w) _ (long (c .before)) (c .if1 .taken)
+
+returns-2 : tie.Need-returns-2
+returns-2 c =
+    let s = c .before .before .before .before in
+    let a = s .args in
+    c .room-test .ensures ∙ delta-whole (a .room) (a .block .now) (a .w) _ (long (c .before .before)) (s .pre .0) (c .before .if1 .left)
+
 pub delta-test-spec : {M : Type 1} → statement M
 delta-test-spec =
     tie.close
@@ -19,9 +28,6 @@ delta-test-spec =
     (λ c κs. search needs)
     (λ c. search needs)
     (λ c. search needs)
-    (λ c. let a = c .before .before .before .args in delta-broken (a .room) (a .block .now) (a .w) _ (long (c .before)) (c .if1 .taken))
+    returns
     (λ c κs. search needs)
-    (λ c.
-    let s = c .before .before .before .before in
-    let a = s .args in
-    c .room-test .ensures ∙ delta-whole (a .room) (a .block .now) (a .w) _ (long (c .before .before)) (s .pre .0) (c .before .if1 .left)))
+    returns-2)

@@ -10,6 +10,15 @@ use Rattle.filter_block.proofs.inner.narrow_test.Tie as tie
 told : (c : tie.After-count-units) → let a = c .before .before .before .args in c .count-units .result ≡ counted (a .w) (drop 1 (a .block .now))
 told c = let a = c .before .before .before .args in c .count-units .ensures ∙ ap (counted (a .w)) (part-end 1 (a .block .now))
 
+returns : tie.Need-returns
+returns c = let a = c .before .before .before .before .before .args in narrow-lacking (a .room) (a .block .now) (a .w) (sym (c .enum-told .given .1) ∙ told (c .before .before))
+
+returns-2 : tie.Need-returns-2
+returns-2 c =
+    let k = c .before .before .before .before in
+    let a = k .before .before .before .args in
+    c .unit-test .ensures ∙ narrow-units (a .room) (a .block .now) (a .w) _ (sym (c .before .before .counted .given .1) ∙ told k)
+
 pub narrow-test-spec : {M : Type 1} → statement M
 narrow-test-spec =
     tie.close
@@ -21,8 +30,5 @@ narrow-test-spec =
     (λ c. search needs)
     (λ c. search needs)
     (λ c κs. search needs)
-    (λ c. let a = c .before .before .before .before .before .args in narrow-lacking (a .room) (a .block .now) (a .w) (sym (c .enum-told .given .1) ∙ told (c .before .before)))
-    (λ c.
-    let k = c .before .before .before .before in
-    let a = k .before .before .before .args in
-    c .unit-test .ensures ∙ narrow-units (a .room) (a .block .now) (a .w) _ (sym (c .before .before .counted .given .1) ∙ told k)))
+    returns
+    returns-2)

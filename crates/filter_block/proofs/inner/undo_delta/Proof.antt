@@ -4,25 +4,34 @@ use Rattle.filter_block.proofs.Opening.{delta-given, delta-put}
 use Rattle.filter_block.proofs.inner.undo_delta.Statement.{statement}
 use Rattle.filter_block.proofs.inner.undo_delta.Tie as tie
 
+shared-slice-read-wide : tie.Need-shared-slice-read-wide
+shared-slice-read-wide c = let s = c .before .before .before .before in level-in (s .args .w) (s .args .block .now) (s .pre .1)
+
+put-undone-requires : tie.Need-put-undone-requires
+put-undone-requires c κs =
+    let h = c .before .before .before .before in
+    let s = h .before .before .before in
+    delta-given (s .args .block .now) (s .args .out .now) (s .args .w) _ (s .pre) (h .header-length .ensures .0)
+
+returns : tie.Need-returns
+returns c =
+    let k = c .before .before in
+    let h = k .before .before .before .before .before in
+    let s = h .before .before .before in
+    let level = k .before .before .before .wide .ensures .0 in
+    delta-put (s .args .block .now) (s .args .out .now) (s .args .w) _ (s .pre) (h .header-length .ensures .0) _ (k .put-undone .last .0) level (k .put-undone .ensures)
+
 pub undo-delta-spec : {M : Type 1} → statement M
 undo-delta-spec =
     tie.close
     (tie.spec
     (λ c κs. search needs)
-    (λ c. let s = c .before .before .before .before in level-in (s .args .w) (s .args .block .now) (s .pre .1))
+    shared-slice-read-wide
     (λ c κs. search needs)
     (λ c. search needs)
     (λ c. search needs)
     (λ c. search needs)
-    (λ c κs.
-    let h = c .before .before .before .before in
-    let s = h .before .before .before in
-    delta-given (s .args .block .now) (s .args .out .now) (s .args .w) _ (s .pre) (h .header-length .ensures .0))
+    put-undone-requires
     (λ c. search needs)
     (λ c. search needs)
-    (λ c.
-    let k = c .before .before in
-    let h = k .before .before .before .before .before in
-    let s = h .before .before .before in
-    let level = k .before .before .before .wide .ensures .0 in
-    delta-put (s .args .block .now) (s .args .out .now) (s .args .w) _ (s .pre) (h .header-length .ensures .0) _ (k .put-undone .last .0) level (k .put-undone .ensures)))
+    returns)

@@ -4,5 +4,11 @@ use Rattle.filter_block.proofs.Tests.{units-over, units-fit}
 use Rattle.filter_block.proofs.inner.unit_test.Statement.{statement}
 use Rattle.filter_block.proofs.inner.unit_test.Tie as tie
 
+returns : tie.Need-returns
+returns c = search (refusal, units-over)
+
+returns-2 : tie.Need-returns-2
+returns-2 c = search (onward, units-fit)
+
 pub unit-test-spec : {M : Type 1} → statement M
-unit-test-spec = tie.close (tie.spec (λ c. search needs) (λ c. search (refusal, units-over)) (λ c. search (onward, units-fit)))
+unit-test-spec = tie.close (tie.spec (λ c. search needs) returns returns-2)

@@ -11,23 +11,65 @@ Inv-loop source w at₀ units₀ at units = Counting w at units source
 abbrev μ-loop : tie.MeasureT-loop
 μ-loop source w at₀ units₀ at units = length source - at
 
+loop-holds : tie.Need-loop-holds
+loop-holds c = counting-start (c .args .w) (c .args .source .now)
+
+shared-slice-read-if1 : tie.Need-shared-slice-read-if1
+shared-slice-read-if1 c = omega arith
+
+sub-if2 : tie.Need-sub-if2
+sub-if2 c = omega arith
+
+returns : tie.Need-returns
+returns c = counting-lacking (c .before .before .before .before .loop .inv) (c .before .before .before .loop-test .taken) (c .before .if1 .taken) (omega arith)
+
+add-at : tie.Need-add-at
+add-at c = omega arith
+
+add-at-2 : tie.Need-add-at-2
+add-at-2 c = omega arith
+
+add-units : tie.Need-add-units
+add-units c = omega arith
+
+loop-less : tie.Need-loop-less
+loop-less c = omega arith
+
+loop-again : tie.Need-loop-again
+loop-again c = let a = c .before .before .before .before .before .args in let l = c .before .before .before .before .loop in counting-more (l .inv) (long-turn (a .w) (l .at) (a .source .now) (c .before .before .before .loop-test .taken) (c .before .if1 .taken) (omega arith))
+
+add-at-3 : tie.Need-add-at-3
+add-at-3 c = omega arith
+
+add-units-2 : tie.Need-add-units-2
+add-units-2 c = omega arith
+
+loop-less-2 : tie.Need-loop-less-2
+loop-less-2 c = omega arith
+
+loop-again-2 : tie.Need-loop-again-2
+loop-again-2 c = let a = c .before .before .before .before .args in let l = c .before .before .before .loop in counting-more (l .inv) (short-turn (a .w) (l .at) (a .source .now) (c .before .before .loop-test .taken) (c .if1 .left))
+
+returns-2 : tie.Need-returns-2
+returns-2 c = counting-done (c .before .loop .inv) (c .loop-test .left)
+
 pub count-units-spec : {M : Type 1} → statement M
 count-units-spec =
     tie.close
     (tie.spec
     Inv-loop
     μ-loop
-    (λ c. counting-start (c .args .w) (c .args .source .now))
-    (λ c. omega arith)
-    (λ c. omega arith)
-    (λ c. counting-lacking (c .before .before .before .before .loop .inv) (c .before .before .before .loop-test .taken) (c .before .if1 .taken) (omega arith))
-    (λ c. omega arith)
-    (λ c. omega arith)
-    (λ c. omega arith)
-    (λ c. omega arith)
-    (λ c. let a = c .before .before .before .before .before .args in let l = c .before .before .before .before .loop in counting-more (l .inv) (long-turn (a .w) (l .at) (a .source .now) (c .before .before .before .loop-test .taken) (c .before .if1 .taken) (omega arith)))
-    (λ c. omega arith)
-    (λ c. omega arith)
-    (λ c. omega arith)
-    (λ c. let a = c .before .before .before .before .args in let l = c .before .before .before .loop in counting-more (l .inv) (short-turn (a .w) (l .at) (a .source .now) (c .before .before .loop-test .taken) (c .if1 .left)))
-    (λ c. counting-done (c .before .loop .inv) (c .loop-test .left)))
+    loop-holds
+    shared-slice-read-if1
+    sub-if2
+    returns
+    add-at
+    add-at-2
+    add-units
+    loop-less
+    loop-again
+    add-at-3
+    add-units-2
+    loop-less-2
+    loop-again-2
+    returns-2)

@@ -4,10 +4,19 @@ use Rattle.filter_format.specs.Narrow.{least}
 use Rattle.filter_narrow.proofs.inner.least.Statement.{statement}
 use Rattle.filter_narrow.proofs.inner.least.Tie as tie
 
+returns : tie.Need-returns
+returns c = ap least (let e : 1 ≡ c .before .args .w = omega arith in e)
+
+returns-2 : tie.Need-returns-2
+returns-2 c = ap least (let e : 2 ≡ c .before .before .args .w = omega arith in e)
+
+returns-3 : tie.Need-returns-3
+returns-3 c = ap least (let e : 4 ≡ c .before .before .args .w = omega arith in e)
+
 pub least-spec : {M : Type 1} → statement M
 least-spec =
     tie.close
     (tie.spec
-    (λ c. ap least (let e : 1 ≡ c .before .args .w = omega arith in e))
-    (λ c. ap least (let e : 2 ≡ c .before .before .args .w = omega arith in e))
-    (λ c. ap least (let e : 4 ≡ c .before .before .args .w = omega arith in e)))
+    returns
+    returns-2
+    returns-3)

@@ -5,11 +5,17 @@ use borrow.Author.Needs.{needs}
 use Rattle.filter_narrow.proofs.inner.narrow_length.Statement.{statement}
 use Rattle.filter_narrow.proofs.inner.narrow_length.Tie as tie
 
+returns : tie.Need-returns
+returns c = let a = c .before .before .args in (sym (length-one (a .w) (a .u) (c .before .fits-one .ensures) (c .if1 .taken)), omega arith)
+
+returns-2 : tie.Need-returns-2
+returns-2 c = let a = c .before .before .args in (sym (length-whole (a .w) (a .u) (c .before .fits-one .ensures) (c .if1 .left)), omega arith)
+
 pub narrow-length-spec : {M : Type 1} → statement M
 narrow-length-spec =
     tie.close
     (tie.spec
     (λ c κs. search needs)
     (λ c. search needs)
-    (λ c. let a = c .before .before .args in (sym (length-one (a .w) (a .u) (c .before .fits-one .ensures) (c .if1 .taken)), omega arith))
-    (λ c. let a = c .before .before .args in (sym (length-whole (a .w) (a .u) (c .before .fits-one .ensures) (c .if1 .left)), omega arith)))
+    returns
+    returns-2)

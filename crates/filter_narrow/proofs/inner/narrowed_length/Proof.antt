@@ -9,19 +9,49 @@ Inv-loop source w from₀ left₀ size₀ from left size = Measuring w from left
 abbrev μ-loop : tie.MeasureT-loop
 μ-loop source w from₀ left₀ size₀ from left size = left
 
+div-left : tie.Need-div-left
+div-left c = omega arith
+
+loop-holds : tie.Need-loop-holds
+loop-holds c = let a = c .before in measuring-start (a .args .w) (a .args .source .now) (a .pre .1) (a .pre .2)
+
+get-unit-requires : tie.Need-get-unit-requires
+get-unit-requires c κs = (c .before .before .before .pre .0, remaining-within (c .before .loop .inv .units) (c .loop-test .taken))
+
+narrow-length-requires : tie.Need-narrow-length-requires
+narrow-length-requires c κs = c .before .before .before .before .pre .0
+
+add-size : tie.Need-add-size
+add-size c = omega (arith, measuring-few (c .before .before .before .loop .inv))
+
+add-from : tie.Need-add-from
+add-from c = omega (arith, remaining-within (c .before .before .before .loop .inv .units) (c .before .before .loop-test .taken))
+
+sub-left : tie.Need-sub-left
+sub-left c = omega arith
+
+loop-less : tie.Need-loop-less
+loop-less c = omega arith
+
+loop-again : tie.Need-loop-again
+loop-again c = let u = c .before .get-unit in let n = c .narrow-length in measuring-more (c .before .before .before .loop .inv) (c .before .before .loop-test .taken) (u .result) (n .result) (u .ensures .0) (n .ensures .0) (n .ensures .1)
+
+returns : tie.Need-returns
+returns c = measuring-done (c .before .loop .inv) (omega arith)
+
 pub narrowed-length-spec : {M : Type 1} → statement M
 narrowed-length-spec =
     tie.close
     (tie.spec
     Inv-loop
     μ-loop
-    (λ c. omega arith)
-    (λ c. let a = c .before in measuring-start (a .args .w) (a .args .source .now) (a .pre .1) (a .pre .2))
-    (λ c κs. (c .before .before .before .pre .0, remaining-within (c .before .loop .inv .units) (c .loop-test .taken)))
-    (λ c κs. c .before .before .before .before .pre .0)
-    (λ c. omega (arith, measuring-few (c .before .before .before .loop .inv)))
-    (λ c. omega (arith, remaining-within (c .before .before .before .loop .inv .units) (c .before .before .loop-test .taken)))
-    (λ c. omega arith)
-    (λ c. omega arith)
-    (λ c. let u = c .before .get-unit in let n = c .narrow-length in measuring-more (c .before .before .before .loop .inv) (c .before .before .loop-test .taken) (u .result) (n .result) (u .ensures .0) (n .ensures .0) (n .ensures .1))
-    (λ c. measuring-done (c .before .loop .inv) (omega arith)))
+    div-left
+    loop-holds
+    get-unit-requires
+    narrow-length-requires
+    add-size
+    add-from
+    sub-left
+    loop-less
+    loop-again
+    returns)

@@ -9,22 +9,52 @@ Inv-loop out₀ at source w from₀ left₀ to₀ out from left to = Narrowing w
 abbrev μ-loop : tie.MeasureT-loop
 μ-loop out₀ at source w from₀ left₀ to₀ out from left to = left
 
+div-left : tie.Need-div-left
+div-left c = omega arith
+
+loop-holds : tie.Need-loop-holds
+loop-holds c = let a = c .before .before in narrowing-start (a .args .w) (a .args .at) (a .args .source .now) (a .args .out .now) (a .pre .1) (a .pre .2)
+
+get-unit-requires : tie.Need-get-unit-requires
+get-unit-requires c κs = (c .before .before .before .before .before .pre .0, remaining-within (c .before .before .loop .inv .units) (c .before .loop-test .taken))
+
+put-narrow-requires : tie.Need-put-narrow-requires
+put-narrow-requires c κs = (c .before .before .before .before .before .before .pre .0, narrowing-room (c .before .before .before .loop .inv) (c .before .before .loop-test .taken) (c .get-unit .result) (c .get-unit .ensures .0))
+
+add-from : tie.Need-add-from
+add-from c = omega (arith, remaining-within (c .before .before .before .before .before .before .loop .inv .units) (c .before .before .before .before .before .loop-test .taken))
+
+sub-left : tie.Need-sub-left
+sub-left c = omega arith
+
+loop-less : tie.Need-loop-less
+loop-less c = omega arith
+
+loop-again : tie.Need-loop-again
+loop-again c =
+    let u = c .before .before .before .get-unit in
+    let k = c .before .before .put-narrow in
+    narrowing-more (c .before .before .before .before .before .before .loop .inv) (c .before .before .before .before .before .loop-test .taken) (u .result) (u .ensures .0) (k .result) (k .last .0) (k .ensures .0) (k .ensures .1)
+
+same-length : tie.Need-same-length
+same-length c = narrowing-same (c .before .loop .inv)
+
+returns : tie.Need-returns
+returns c = narrowing-done (c .before .loop .inv) (omega arith)
+
 pub put-narrowed-spec : {M : Type 1} → statement M
 put-narrowed-spec =
     tie.close
     (tie.spec
     Inv-loop
     μ-loop
-    (λ c. omega arith)
-    (λ c. let a = c .before .before in narrowing-start (a .args .w) (a .args .at) (a .args .source .now) (a .args .out .now) (a .pre .1) (a .pre .2))
-    (λ c κs. (c .before .before .before .before .before .pre .0, remaining-within (c .before .before .loop .inv .units) (c .before .loop-test .taken)))
-    (λ c κs. (c .before .before .before .before .before .before .pre .0, narrowing-room (c .before .before .before .loop .inv) (c .before .before .loop-test .taken) (c .get-unit .result) (c .get-unit .ensures .0)))
-    (λ c. omega (arith, remaining-within (c .before .before .before .before .before .before .loop .inv .units) (c .before .before .before .before .before .loop-test .taken)))
-    (λ c. omega arith)
-    (λ c. omega arith)
-    (λ c.
-    let u = c .before .before .before .get-unit in
-    let k = c .before .before .put-narrow in
-    narrowing-more (c .before .before .before .before .before .before .loop .inv) (c .before .before .before .before .before .loop-test .taken) (u .result) (u .ensures .0) (k .result) (k .last .0) (k .ensures .0) (k .ensures .1))
-    (λ c. narrowing-same (c .before .loop .inv))
-    (λ c. narrowing-done (c .before .loop .inv) (omega arith)))
+    div-left
+    loop-holds
+    get-unit-requires
+    put-narrow-requires
+    add-from
+    sub-left
+    loop-less
+    loop-again
+    same-length
+    returns)

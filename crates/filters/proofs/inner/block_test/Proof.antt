@@ -4,14 +4,35 @@ use Rattle.filters.proofs.Chain.{judging}
 use Rattle.filters.proofs.inner.block_test.Statement.{statement}
 use Rattle.filters.proofs.inner.block_test.Tie as tie
 
+returns : tie.Need-returns
+returns c = search (refusal, judging)
+
+is-raw-requires : tie.Need-is-raw-requires
+is-raw-requires c κs = search judging
+
+is-filter-requires : tie.Need-is-filter-requires
+is-filter-requires c κs = search judging
+
+returns-2 : tie.Need-returns-2
+returns-2 c = search (refusal, judging)
+
+returns-3 : tie.Need-returns-3
+returns-3 c = search (refusal, judging)
+
+contents-test-requires : tie.Need-contents-test-requires
+contents-test-requires c κs = search judging
+
+returns-4 : tie.Need-returns-4
+returns-4 c = search (onward, judging)
+
 pub block-test-spec : {M : Type 1} → statement M
 block-test-spec =
     tie.close
     (tie.spec
-    (λ c. search (refusal, judging))
-    (λ c κs. search judging)
-    (λ c κs. search judging)
-    (λ c. search (refusal, judging))
-    (λ c. search (refusal, judging))
-    (λ c κs. search judging)
-    (λ c. search (onward, judging)))
+    returns
+    is-raw-requires
+    is-filter-requires
+    returns-2
+    returns-3
+    contents-test-requires
+    returns-4)

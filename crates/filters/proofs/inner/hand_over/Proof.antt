@@ -3,6 +3,14 @@ use Rattle.filters.proofs.Buffers.{holds-part, placed}
 use Rattle.filters.proofs.inner.hand_over.Statement.{statement}
 use Rattle.filters.proofs.inner.hand_over.Tie as tie
 
+returns : tie.Need-returns
+returns c =
+    let z = c .before .before in
+    let m = z .before .before .before .before .before .before .before .before in
+    let a = m .before .before .before .before .before in
+    let held = holds-part (a .args .here .now) (a .pre .0) (a .pre .1) (m .copy .ensures) in
+    placed held (a .args .here .now) (z .before .before .before .before .clear-behind .ensures) (z .clear-behind2 .ensures)
+
 pub hand-over-spec : {M : Type 1} → statement M
 hand-over-spec =
     tie.close
@@ -12,9 +20,4 @@ hand-over-spec =
     (λ c κs. search needs)
     (λ c. search needs)
     (λ c. search needs)
-    (λ c.
-    let z = c .before .before in
-    let m = z .before .before .before .before .before .before .before .before in
-    let a = m .before .before .before .before .before in
-    let held = holds-part (a .args .here .now) (a .pre .0) (a .pre .1) (m .copy .ensures) in
-    placed held (a .args .here .now) (z .before .before .before .before .clear-behind .ensures) (z .clear-behind2 .ensures)))
+    returns)

@@ -4,6 +4,14 @@ use Rattle.filters.proofs.Buffers.{holds-part, placed}
 use Rattle.filters.proofs.inner.keep.Statement.{statement}
 use Rattle.filters.proofs.inner.keep.Tie as tie
 
+returns : tie.Need-returns
+returns c =
+    let z = c .before .before in
+    let m = z .before .before .before .before .before .before .before .before in
+    let a = m .before .before .before .before in
+    let held = holds-part (a .args .here .now) (a .pre) (omega arith) (m .move-down .ensures) in
+    placed held (a .args .there .now) (z .before .before .before .before .clear-behind .ensures) (z .clear-behind2 .ensures)
+
 pub keep-spec : {M : Type 1} → statement M
 keep-spec =
     tie.close
@@ -13,9 +21,4 @@ keep-spec =
     (λ c κs. search needs)
     (λ c. search needs)
     (λ c. search needs)
-    (λ c.
-    let z = c .before .before in
-    let m = z .before .before .before .before .before .before .before .before in
-    let a = m .before .before .before .before in
-    let held = holds-part (a .args .here .now) (a .pre) (omega arith) (m .move-down .ensures) in
-    placed held (a .args .there .now) (z .before .before .before .before .clear-behind .ensures) (z .clear-behind2 .ensures)))
+    returns)

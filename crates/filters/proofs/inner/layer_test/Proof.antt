@@ -4,12 +4,27 @@ use Rattle.filters.proofs.Chain.{judging}
 use Rattle.filters.proofs.inner.layer_test.Statement.{statement}
 use Rattle.filters.proofs.inner.layer_test.Tie as tie
 
+returns : tie.Need-returns
+returns c = search (refusal, judging)
+
+is-filter-requires : tie.Need-is-filter-requires
+is-filter-requires c κs = search judging
+
+returns-2 : tie.Need-returns-2
+returns-2 c = search (refusal, judging)
+
+contents-test-requires : tie.Need-contents-test-requires
+contents-test-requires c κs = search judging
+
+returns-3 : tie.Need-returns-3
+returns-3 c = search (onward, judging)
+
 pub layer-test-spec : {M : Type 1} → statement M
 layer-test-spec =
     tie.close
     (tie.spec
-    (λ c. search (refusal, judging))
-    (λ c κs. search judging)
-    (λ c. search (refusal, judging))
-    (λ c κs. search judging)
-    (λ c. search (onward, judging)))
+    returns
+    is-filter-requires
+    returns-2
+    contents-test-requires
+    returns-3)

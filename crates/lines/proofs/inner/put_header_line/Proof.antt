@@ -13,16 +13,25 @@ returns c =
     let flows = key .before .before .before .before .before in
     three-all _ _ _ (flows .before .before .before .before .before .pre) (flows .put-labelled-number .ensures) (key .put-labelled-word .ensures) (reads .put-labelled-number2 .ensures)
 
+put-labelled-number-requires : tie.Need-put-labelled-number-requires
+put-labelled-number-requires c κs = search three
+
+put-labelled-word-requires : tie.Need-put-labelled-word-requires
+put-labelled-word-requires c κs = search three
+
+put-labelled-number-requires-2 : tie.Need-put-labelled-number-requires-2
+put-labelled-number-requires-2 c κs = search three-3
+
 pub put-header-line-spec : {M : Type 1} → statement M
 unfolding headerLine
 put-header-line-spec =
     tie.close
     (tie.spec
     (λ c. search needs)
-    (λ c κs. search three)
+    put-labelled-number-requires
     (λ c. search needs)
-    (λ c κs. search three)
+    put-labelled-word-requires
     (λ c. search needs)
-    (λ c κs. search three-3)
+    put-labelled-number-requires-2
     (λ c. search needs)
     returns)

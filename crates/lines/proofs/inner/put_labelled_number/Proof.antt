@@ -4,6 +4,15 @@ use Rattle.text.proofs.Writing.{two}
 use Rattle.lines.proofs.inner.put_labelled_number.Statement.{statement}
 use Rattle.lines.proofs.inner.put_labelled_number.Tie as tie
 
+put-bytes-requires : tie.Need-put-bytes-requires
+put-bytes-requires c κs = search two
+
+put-number-field-requires : tie.Need-put-number-field-requires
+put-number-field-requires c κs = search two
+
+returns : tie.Need-returns
+returns c = search two
+
 pub put-labelled-number-spec : {M : Type 1} → statement M
 unfolding labelledNumber
-put-labelled-number-spec = tie.close (tie.spec (λ c κs. search two) (λ c κs. search two) (λ c. search needs) (λ c. search two))
+put-labelled-number-spec = tie.close (tie.spec put-bytes-requires put-number-field-requires (λ c. search needs) returns)

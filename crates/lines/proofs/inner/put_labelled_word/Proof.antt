@@ -4,6 +4,15 @@ use Rattle.text.proofs.Writing.{two}
 use Rattle.lines.proofs.inner.put_labelled_word.Statement.{statement}
 use Rattle.lines.proofs.inner.put_labelled_word.Tie as tie
 
+put-bytes-requires : tie.Need-put-bytes-requires
+put-bytes-requires c κs = search two
+
+put-word-field-requires : tie.Need-put-word-field-requires
+put-word-field-requires c κs = search two
+
+returns : tie.Need-returns
+returns c = search two
+
 pub put-labelled-word-spec : {M : Type 1} → statement M
 unfolding labelledWord
-put-labelled-word-spec = tie.close (tie.spec (λ c κs. search two) (λ c κs. search two) (λ c. search needs) (λ c. search two))
+put-labelled-word-spec = tie.close (tie.spec put-bytes-requires put-word-field-requires (λ c. search needs) returns)

@@ -4,6 +4,15 @@ use Rattle.text.proofs.Writing.{two}
 use Rattle.lines.proofs.inner.put_number_field.Statement.{statement}
 use Rattle.lines.proofs.inner.put_number_field.Tie as tie
 
+put-number-requires : tie.Need-put-number-requires
+put-number-requires c κs = search two
+
+put-byte-requires : tie.Need-put-byte-requires
+put-byte-requires c κs = search two
+
+returns : tie.Need-returns
+returns c = search two
+
 pub put-number-field-spec : {M : Type 1} → statement M
 unfolding numberField
-put-number-field-spec = tie.close (tie.spec (λ c κs. search two) (λ c κs. search two) (λ c. search needs) (λ c. search two))
+put-number-field-spec = tie.close (tie.spec put-number-requires put-byte-requires (λ c. search needs) returns)

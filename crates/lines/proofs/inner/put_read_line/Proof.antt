@@ -14,6 +14,18 @@ returns c =
     let position = name .before .before .before .before in
     four-all _ _ _ _ (position .before .before .before .before .before .pre) (position .put-number-field .ensures) (name .put-word-field .ensures) (extent .put-extent .ensures) (insert .put-word-field2 .ensures)
 
+put-number-field-requires : tie.Need-put-number-field-requires
+put-number-field-requires c κs = search four
+
+put-word-field-requires : tie.Need-put-word-field-requires
+put-word-field-requires c κs = search four
+
+put-extent-requires : tie.Need-put-extent-requires
+put-extent-requires c κs = search four
+
+put-word-field-requires-2 : tie.Need-put-word-field-requires-2
+put-word-field-requires-2 c κs = search four-4
+
 pub put-read-line-spec : {M : Type 1} → statement M
 unfolding readLine
-put-read-line-spec = tie.close (tie.spec (λ c κs. search four) (λ c κs. search four) (λ c κs. search four) (λ c κs. search four-4) (λ c. search needs) returns)
+put-read-line-spec = tie.close (tie.spec put-number-field-requires put-word-field-requires put-extent-requires put-word-field-requires-2 (λ c. search needs) returns)

@@ -12,14 +12,20 @@ returns c =
     let number = place .before .before .before .before .before in
     two-all _ _ (number .before .before .before .before .pre) (number .put-labelled-number .ensures) (place .put-labelled-number2 .ensures)
 
+put-labelled-number-requires : tie.Need-put-labelled-number-requires
+put-labelled-number-requires c κs = search two
+
+put-labelled-number-requires-2 : tie.Need-put-labelled-number-requires-2
+put-labelled-number-requires-2 c κs = search two
+
 pub put-refusal-line-spec : {M : Type 1} → statement M
 unfolding refusalLine
 put-refusal-line-spec =
     tie.close
     (tie.spec
     (λ c. search needs)
-    (λ c κs. search two)
+    put-labelled-number-requires
     (λ c. search needs)
-    (λ c κs. search two)
+    put-labelled-number-requires-2
     (λ c. search needs)
     returns)

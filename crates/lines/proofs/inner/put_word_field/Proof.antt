@@ -4,6 +4,15 @@ use Rattle.text.proofs.Writing.{two}
 use Rattle.lines.proofs.inner.put_word_field.Statement.{statement}
 use Rattle.lines.proofs.inner.put_word_field.Tie as tie
 
+put-or-dash-requires : tie.Need-put-or-dash-requires
+put-or-dash-requires c κs = search two
+
+put-byte-requires : tie.Need-put-byte-requires
+put-byte-requires c κs = search two
+
+returns : tie.Need-returns
+returns c = search two
+
 pub put-word-field-spec : {M : Type 1} → statement M
 unfolding wordField
-put-word-field-spec = tie.close (tie.spec (λ c κs. search two) (λ c κs. search two) (λ c. search needs) (λ c. search two))
+put-word-field-spec = tie.close (tie.spec put-or-dash-requires put-byte-requires (λ c. search needs) returns)

@@ -4,6 +4,9 @@ use borrow.Author.Needs.{needs}
 use Rattle.octets.proofs.inner.four.Statement.{statement}
 use Rattle.octets.proofs.inner.four.Tie as tie
 
+returns : tie.Need-returns
+returns c = let d = c .before .before .before .before .before .before .before .before .before in (omega (arith, number-four (d .args .at) (d .args .s .now) (d .pre)), omega arith)
+
 pub four-spec : {M : Type 1} → statement M
 four-spec =
     tie.close
@@ -25,4 +28,4 @@ four-spec =
     (λ c. search needs)
     (λ c κs. search needs)
     (λ c. search needs)
-    (λ c. let d = c .before .before .before .before .before .before .before .before .before in (omega (arith, number-four (d .args .at) (d .args .s .now) (d .pre)), omega arith)))
+    returns)

@@ -8,12 +8,21 @@ use borrow.Author.Needs.{needs}
 use Rattle.sff.proofs.inner.pass_test.Statement.{statement}
 use Rattle.sff.proofs.inner.pass_test.Tie as tie
 
+add-if1 : tie.Need-add-if1
+add-if1 c = let l = c .before .before .args .header .«index_length» in omega (arith, size-most l)
+
+returns : tie.Need-returns
+returns c = let s = c .before .before .before in rw (index-length-of (s .args .header) _ (s .pre .0), ← (c .before .index-size .ensures)) (search refusal)
+
+returns-2 : tie.Need-returns-2
+returns-2 c = let s = c .before .before .before in rw (index-length-of (s .args .header) _ (s .pre .0), ← (c .before .index-size .ensures)) (search onward)
+
 pub pass-test-spec : {M : Type 1} → statement M
 unfolding passTest
 pass-test-spec =
     tie.close
     (tie.spec
     (λ c κs. search needs)
-    (λ c. let l = c .before .before .args .header .«index_length» in omega (arith, size-most l))
-    (λ c. let s = c .before .before .before in rw (index-length-of (s .args .header) _ (s .pre .0), ← (c .before .index-size .ensures)) (search refusal))
-    (λ c. let s = c .before .before .before in rw (index-length-of (s .args .header) _ (s .pre .0), ← (c .before .index-size .ensures)) (search onward)))
+    add-if1
+    returns
+    returns-2)

@@ -5,6 +5,21 @@ use borrow.Author.Needs.{needs}
 use Rattle.sff_clips.proofs.inner.clip_test.Statement.{statement}
 use Rattle.sff_clips.proofs.inner.clip_test.Tie as tie
 
+returns : tie.Need-returns
+returns c = search refusal
+
+returns-2 : tie.Need-returns-2
+returns-2 c = search refusal
+
+returns-3 : tie.Need-returns-3
+returns-3 c = search refusal
+
+returns-4 : tie.Need-returns-4
+returns-4 c = search refusal depth 9
+
+returns-5 : tie.Need-returns-5
+returns-5 c = search onward depth 9
+
 pub clip-test-spec : {M : Type 1} → statement M
 unfolding clipTest
 clip-test-spec =
@@ -13,11 +28,11 @@ clip-test-spec =
     (λ c κs. search needs)
     (λ c κs. search needs)
     (λ c. search needs)
-    (λ c. search refusal)
+    returns
     (λ c. search needs)
-    (λ c. search refusal)
+    returns-2
     (λ c. search needs)
-    (λ c. search refusal)
+    returns-3
     (λ c. search needs)
-    (λ c. search refusal depth 9)
-    (λ c. search onward depth 9))
+    returns-4
+    returns-5)

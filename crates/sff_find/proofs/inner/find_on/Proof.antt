@@ -20,13 +20,16 @@ seek-requires c κs =
     let l : a .from .position < readCount (a .s .now) = omega (arith, d .pre) in
     (h .0, (h .1, (rw (c .boundary-at .ensures) (walk-at _ (d .pre .0) y _ l (d .pre .1 .1 .known l)), (omega arith, d .pre .1 .0))))
 
+header-fields-requires : tie.Need-header-fields-requires
+header-fields-requires c κs = fits-31 _ (head-ok _ (c .before .before .pre .0))
+
 pub find-on-spec : {M : Type 1} → statement M
 find-on-spec =
     tie.close
     (tie.spec
     (λ c κs. search needs)
     (λ c. search needs)
-    (λ c κs. fits-31 _ (head-ok _ (c .before .before .pre .0)))
+    header-fields-requires
     (λ c κs. search needs)
     seek-requires
     (λ c. search needs))

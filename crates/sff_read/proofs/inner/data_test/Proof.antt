@@ -5,6 +5,18 @@ use borrow.Author.Needs.{needs}
 use Rattle.sff_read.proofs.inner.data_test.Statement.{statement}
 use Rattle.sff_read.proofs.inner.data_test.Tie as tie
 
+returns : tie.Need-returns
+returns c = search (refusal, data-tested)
+
+returns-2 : tie.Need-returns-2
+returns-2 c = search (refusal, data-tested)
+
+returns-3 : tie.Need-returns-3
+returns-3 c = search (refusal, data-tested)
+
+returns-4 : tie.Need-returns-4
+returns-4 c = search (onward, data-tested)
+
 pub data-test-spec : {M : Type 1} → statement M
 data-test-spec =
     tie.close
@@ -14,14 +26,14 @@ data-test-spec =
     (λ c. search needs)
     (λ c κs. search needs)
     (λ c. search needs)
-    (λ c. search (refusal, data-tested))
+    returns
     (λ c. search needs)
     (λ c. search needs)
     (λ c κs. search needs)
     (λ c. search needs)
     (λ c. search needs)
-    (λ c. search (refusal, data-tested))
+    returns-2
     (λ c. search needs)
     (λ c κs. search needs)
-    (λ c. search (refusal, data-tested))
-    (λ c. search (onward, data-tested)))
+    returns-3
+    returns-4)

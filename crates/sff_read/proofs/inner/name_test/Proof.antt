@@ -5,6 +5,21 @@ use borrow.Author.Needs.{needs}
 use Rattle.sff_read.proofs.inner.name_test.Statement.{statement}
 use Rattle.sff_read.proofs.inner.name_test.Tie as tie
 
+returns : tie.Need-returns
+returns c = search refusal
+
+returns-2 : tie.Need-returns-2
+returns-2 c = search refusal
+
+returns-3 : tie.Need-returns-3
+returns-3 c = search refusal
+
+returns-4 : tie.Need-returns-4
+returns-4 c = search refusal
+
+returns-5 : tie.Need-returns-5
+returns-5 c = search onward
+
 pub name-test-spec : {M : Type 1} → statement M
 unfolding nameTest
 name-test-spec =
@@ -15,11 +30,11 @@ name-test-spec =
     (λ c. search needs)
     (λ c. search needs)
     (λ c κs. search needs)
-    (λ c. search refusal)
-    (λ c. search refusal)
+    returns
+    returns-2
     (λ c. search needs)
     (λ c κs. search needs)
-    (λ c. search refusal)
+    returns-3
     (λ c κs. search needs)
-    (λ c. search refusal)
-    (λ c. search onward))
+    returns-4
+    returns-5)

@@ -14,6 +14,15 @@ returns-2 : tie.Need-returns-2
 unfolding readTest
 returns-2 c = let l = c .before .before .before in rw (← (l .before .get16 .ensures .0), ← (l .get162 .ensures .0)) (search refusal)
 
+returns-3 : tie.Need-returns-3
+returns-3 c = search (refusal, read-tested)
+
+data-test-requires : tie.Need-data-test-requires
+data-test-requires c κs = let h = name-fits _ _ _ _ (c .before .before .before .before .before .before .name-test .ensures) (c .before .before .before .before .enum-told .given .1) in search needs
+
+returns-4 : tie.Need-returns-4
+returns-4 c = search (onward, read-tested)
+
 pub read-test-spec : {M : Type 1} → statement M
 read-test-spec =
     tie.close
@@ -31,7 +40,7 @@ read-test-spec =
     (λ c κs. search needs)
     (λ c. search needs)
     (λ c. search needs)
-    (λ c. search (refusal, read-tested))
+    returns-3
     (λ c. search needs)
-    (λ c κs. let h = name-fits _ _ _ _ (c .before .before .before .before .before .before .name-test .ensures) (c .before .before .before .before .enum-told .given .1) in search needs)
-    (λ c. search (onward, read-tested)))
+    data-test-requires
+    returns-4)

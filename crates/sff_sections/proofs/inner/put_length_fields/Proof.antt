@@ -4,6 +4,12 @@ use borrow.Author.Needs.{needs}
 use Rattle.sff_sections.proofs.inner.put_length_fields.Statement.{statement}
 use Rattle.sff_sections.proofs.inner.put_length_fields.Tie as tie
 
+same-length : tie.Need-same-length
+same-length c = simp length-set (search needs)
+
+returns : tie.Need-returns
+returns c = search lengths-put
+
 pub put-length-fields-spec : {M : Type 1} → statement M
 put-length-fields-spec =
     tie.close
@@ -13,5 +19,5 @@ put-length-fields-spec =
     (λ c κs. search needs)
     (λ c κs. search needs)
     (λ c. search needs)
-    (λ c. simp length-set (search needs))
-    (λ c. search lengths-put))
+    same-length
+    returns)

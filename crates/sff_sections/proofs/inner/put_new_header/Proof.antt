@@ -3,6 +3,9 @@ use borrow.Author.Needs.{needs}
 use Rattle.sff_sections.proofs.inner.put_new_header.Statement.{statement}
 use Rattle.sff_sections.proofs.inner.put_new_header.Tie as tie
 
+returns : tie.Need-returns
+returns c = search new-put
+
 pub put-new-header-spec : {M : Type 1} → statement M
 put-new-header-spec =
     tie.close
@@ -15,4 +18,4 @@ put-new-header-spec =
     (λ c. search needs)
     (λ c κs. search needs)
     (λ c. search needs)
-    (λ c. search new-put))
+    returns)

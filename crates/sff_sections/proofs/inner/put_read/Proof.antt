@@ -3,6 +3,9 @@ use borrow.Author.Needs.{needs}
 use Rattle.sff_sections.proofs.inner.put_read.Statement.{statement}
 use Rattle.sff_sections.proofs.inner.put_read.Tie as tie
 
+returns : tie.Need-returns
+returns c = search read-put
+
 pub put-read-spec : {M : Type 1} → statement M
 put-read-spec =
     tie.close
@@ -13,4 +16,4 @@ put-read-spec =
     (λ c. search needs)
     (λ c κs. search needs)
     (λ c. search needs)
-    (λ c. search read-put))
+    returns)

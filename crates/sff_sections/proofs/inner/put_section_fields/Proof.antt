@@ -3,6 +3,9 @@ use borrow.Author.Needs.{needs}
 use Rattle.sff_sections.proofs.inner.put_section_fields.Statement.{statement}
 use Rattle.sff_sections.proofs.inner.put_section_fields.Tie as tie
 
+returns : tie.Need-returns
+returns c = search section-put
+
 pub put-section-fields-spec : {M : Type 1} → statement M
 put-section-fields-spec =
     tie.close
@@ -17,4 +20,4 @@ put-section-fields-spec =
     (λ c. search needs)
     (λ c κs. search needs)
     (λ c. search needs)
-    (λ c. search section-put))
+    returns)

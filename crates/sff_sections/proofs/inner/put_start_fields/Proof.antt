@@ -3,6 +3,9 @@ use borrow.Author.Needs.{needs}
 use Rattle.sff_sections.proofs.inner.put_start_fields.Statement.{statement}
 use Rattle.sff_sections.proofs.inner.put_start_fields.Tie as tie
 
+returns : tie.Need-returns
+returns c = search start-put
+
 pub put-start-fields-spec : {M : Type 1} → statement M
 put-start-fields-spec =
     tie.close
@@ -13,4 +16,4 @@ put-start-fields-spec =
     (λ c κs. search needs)
     (λ c κs. search needs)
     (λ c. search needs)
-    (λ c. search start-put))
+    returns)

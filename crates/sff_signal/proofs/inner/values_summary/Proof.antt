@@ -3,6 +3,9 @@ use borrow.Author.Needs.{needs}
 use Rattle.sff_signal.proofs.inner.values_summary.Statement.{statement}
 use Rattle.sff_signal.proofs.inner.values_summary.Tie as tie
 
+returns : tie.Need-returns
+returns c = search made
+
 pub values-summary-spec : {M : Type 1} → statement M
 values-summary-spec =
     tie.close
@@ -13,4 +16,4 @@ values-summary-spec =
     (λ c. search needs)
     (λ c. search needs)
     (λ c κs. search needs)
-    (λ c. search made))
+    returns)

@@ -11,20 +11,53 @@ Inv-loop increments base₀ flow₀ flows bases base flow = (bases ≡ length in
 abbrev μ-loop : tie.MeasureT-loop
 μ-loop increments base₀ flow₀ flows bases base flow = bases + 1 - base .0
 
+loop-holds : tie.Need-loop-holds
+loop-holds c = search walking
+
+sub-after : tie.Need-sub-after
+sub-after c = search walking
+
+shared-slice-read-after : tie.Need-shared-slice-read-after
+shared-slice-read-after c = search walking
+
+after-requires : tie.Need-after-requires
+after-requires c κs = search walking
+
+within-requires : tie.Need-within-requires
+within-requires c κs = search walking
+
+sub-result : tie.Need-sub-result
+sub-result c = search walking
+
+next-requires : tie.Need-next-requires
+next-requires c κs = search walking
+
+loop-less : tie.Need-loop-less
+loop-less c = search walking
+
+loop-again : tie.Need-loop-again
+loop-again c = search walking
+
+returns : tie.Need-returns
+returns c = search walking
+
+returns-2 : tie.Need-returns-2
+returns-2 c = search walking
+
 pub walk-stop-spec : {M : Type 1} → statement M
 walk-stop-spec =
     tie.close
     (tie.spec
     Inv-loop
     μ-loop
-    (λ c. search walking)
-    (λ c. search walking)
-    (λ c. search walking)
-    (λ c κs. search walking)
-    (λ c κs. search walking)
-    (λ c. search walking)
-    (λ c κs. search walking)
-    (λ c. search walking)
-    (λ c. search walking)
-    (λ c. search walking)
-    (λ c. search walking))
+    loop-holds
+    sub-after
+    shared-slice-read-after
+    after-requires
+    within-requires
+    sub-result
+    next-requires
+    loop-less
+    loop-again
+    returns
+    returns-2)

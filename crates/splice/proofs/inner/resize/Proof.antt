@@ -9,29 +9,21 @@ use borrow.Author.Needs.{needs}
 use Rattle.splice.proofs.inner.resize.Statement.{statement}
 use Rattle.splice.proofs.inner.resize.Tie as tie
 
-pub resize-spec : {M : Type 1} → statement M
-resize-spec =
-    tie.close
-    (tie.spec
-    (λ c.
+returns : tie.Need-returns
+returns c =
     let a = c .before .before .args in
     let e : a .size ≡ a .n = omega arith in
     let z : a .n - a .n ≡ 0 = omega arith in
-    rw (e, z, append-nil) (sym (put-same (a .at + a .n) (a .end - (a .at + a .n)) (a .s .now) (omega arith))))
-    (λ c. search needs)
-    (λ c. search needs)
-    (λ c. search needs)
-    (λ c κs. search needs)
-    (λ c. search needs)
-    (λ c.
+    rw (e, z, append-nil) (sym (put-same (a .at + a .n) (a .end - (a .at + a .n)) (a .s .now) (omega arith)))
+
+returns-2 : tie.Need-returns-2
+returns-2 c =
     let a = c .before .before .before .before .before .before .before .args in
     let z : a .n - a .size ≡ 0 = omega arith in
-    rw (z, append-nil) (c .before .before .move-up .ensures))
-    (λ c κs. search needs)
-    (λ c. search needs)
-    (λ c κs. search needs)
-    (λ c. search needs)
-    (λ c.
+    rw (z, append-nil) (c .before .before .move-up .ensures)
+
+returns-3 : tie.Need-returns-3
+returns-3 c =
     let a = c .before .before .before .before .before .before .before .before .before .before .before .args in
     let count : ℕ = a .end - (a .at + a .n) in
     let tail : List ℕ = part (a .at + a .n) count (a .s .now) in
@@ -39,4 +31,21 @@ resize-spec =
     let len : length tail ≡ count = length-part (a .at + a .n) count (a .s .now) (omega arith) in
     rw (← z)
     (rw (c .before .before .before .before .before .before .move-down .ensures) at (c .before .before .fill .ensures)
-    ∙ put-next (a .at + a .size) count tail (replicate (a .end - (a .at + a .size + count)) 0) (a .s .now) len (omega arith))))
+    ∙ put-next (a .at + a .size) count tail (replicate (a .end - (a .at + a .size + count)) 0) (a .s .now) len (omega arith))
+
+pub resize-spec : {M : Type 1} → statement M
+resize-spec =
+    tie.close
+    (tie.spec
+    returns
+    (λ c. search needs)
+    (λ c. search needs)
+    (λ c. search needs)
+    (λ c κs. search needs)
+    (λ c. search needs)
+    returns-2
+    (λ c κs. search needs)
+    (λ c. search needs)
+    (λ c κs. search needs)
+    (λ c. search needs)
+    returns-3)

@@ -3,5 +3,8 @@ use Rattle.text.proofs.Decimal.{counted-short}
 use Rattle.text.proofs.inner.number_length.Statement.{statement}
 use Rattle.text.proofs.inner.number_length.Tie as tie
 
+returns : tie.Need-returns
+returns c = (search needs, counted-short 20 _ (c .count-digits .ensures))
+
 pub number-length-spec : {M : Type 1} → statement M
-number-length-spec = tie.close (tie.spec (λ c κs. search needs) (λ c. (search needs, counted-short 20 _ (c .count-digits .ensures))))
+number-length-spec = tie.close (tie.spec (λ c κs. search needs) returns)

@@ -10,13 +10,19 @@ returns c = dash-wrote _ (search needs) _ _ (c .before .before .put-byte .ensure
 returns-2 : tie.Need-returns-2
 returns-2 c = word-wrote _ (search needs) _ _ (c .before .before .put-bytes .ensures)
 
+put-byte-requires : tie.Need-put-byte-requires
+put-byte-requires c κs = search dashes
+
+put-bytes-requires : tie.Need-put-bytes-requires
+put-bytes-requires c κs = search dashes
+
 pub put-or-dash-spec : {M : Type 1} → statement M
 put-or-dash-spec =
     tie.close
     (tie.spec
-    (λ c κs. search dashes)
+    put-byte-requires
     (λ c. search needs)
     returns
-    (λ c κs. search dashes)
+    put-bytes-requires
     (λ c. search needs)
     returns-2)

@@ -24,16 +24,16 @@ loop-again c =
 returns-2 : tie.Need-returns-2 Inv-loop μ-loop
 returns-2 c = let r = c .before .before in stop-read (r .before .before .loop .inv) (none-due _ _) (omega arith) (r .read-test .ensures) (c .enum-told2 .given .1)
 
-loop-holds : tie.Need-loop-holds
+loop-holds : tie.Need-loop-holds Inv-loop μ-loop
 loop-holds c = let d = c .before in going-start (d .pre .0) (d .pre .1 .0) _ _ true (d .pre .1 .1 .1)
 
-read-test-requires : tie.Need-read-test-requires
+read-test-requires : tie.Need-read-test-requires Inv-loop μ-loop
 read-test-requires c κs = (search needs, search needs, going-characters (c .before .loop .inv))
 
-read-end-requires : tie.Need-read-end-requires
+read-end-requires : tie.Need-read-end-requires Inv-loop μ-loop
 read-end-requires c κs = (fits-16 _ _ _ (sym (c .before .before .read-test .ensures) ∙ c .enum-told .given .1), search needs)
 
-returns : tie.Need-returns
+returns : tie.Need-returns Inv-loop μ-loop
 returns c = stop-end (c .before .before .loop .inv) (none-due _ _) (c .before .if1 .taken) (c .end-test .ensures)
 
 pub reads-test-spec : {M : Type 1} → statement M

@@ -69,13 +69,13 @@ returns-4 c =
     let g = i .before .loop .inv in
     stop-read g (going-due g (i .index-due .ensures) (r .before .before .if1 .left)) (omega arith) (r .read-test .ensures) (c .enum-told4 .given .1)
 
-loop-holds : tie.Need-loop-holds
+loop-holds : tie.Need-loop-holds Inv-loop μ-loop
 loop-holds c = going-first (c .before .pre .0) (c .before .pre .1 .0)
 
-read-test-requires : tie.Need-read-test-requires
+read-test-requires : tie.Need-read-test-requires Inv-loop μ-loop
 read-test-requires c κs = (search needs, search needs, going-characters (c .before .before .before .loop .inv))
 
-read-end-requires : tie.Need-read-end-requires
+read-end-requires : tie.Need-read-end-requires Inv-loop μ-loop
 read-end-requires c κs = (fits-16 _ _ _ (sym (c .before .before .read-test .ensures) ∙ c .enum-told3 .given .1), search needs)
 
 pub sections-test-spec : {M : Type 1} → statement M

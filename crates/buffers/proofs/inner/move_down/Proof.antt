@@ -13,48 +13,48 @@ Inv-loop s₀ from to n j₀ s j = Up to n (part from n s₀) s₀ s j
 abbrev μ-loop : tie.MeasureT-loop
 μ-loop s₀ from to n j₀ s j = n - j
 
-loop-holds : tie.Need-loop-holds
+loop-holds : tie.Need-loop-holds Inv-loop μ-loop
 loop-holds c =
     let a = c .before .args in
     up-start _ _ _ _ (length-part (a .from) (a .n) (a .s .now) (omega arith)) (omega arith)
 
-add-loop : tie.Need-add-loop
+add-loop : tie.Need-add-loop Inv-loop μ-loop
 add-loop c = search moves
 
-add-move-block : tie.Need-add-move-block
+add-move-block : tie.Need-add-move-block Inv-loop μ-loop
 add-move-block c = search moves
 
-add-move-block-2 : tie.Need-add-move-block-2
+add-move-block-2 : tie.Need-add-move-block-2 Inv-loop μ-loop
 add-move-block-2 c = search moves
 
-move-block-requires : tie.Need-move-block-requires
+move-block-requires : tie.Need-move-block-requires Inv-loop μ-loop
 move-block-requires c κs = search moves
 
-add-j : tie.Need-add-j
+add-j : tie.Need-add-j Inv-loop μ-loop
 add-j c = search moves
 
-loop-less : tie.Need-loop-less
+loop-less : tie.Need-loop-less Inv-loop μ-loop
 loop-less c = search moves
 
-loop-again : tie.Need-loop-again
+loop-again : tie.Need-loop-again Inv-loop μ-loop
 loop-again c = search (up-block, needs)
 
-add-bytes-down : tie.Need-add-bytes-down
+add-bytes-down : tie.Need-add-bytes-down Inv-loop μ-loop
 add-bytes-down c = search moves
 
-add-bytes-down-2 : tie.Need-add-bytes-down-2
+add-bytes-down-2 : tie.Need-add-bytes-down-2 Inv-loop μ-loop
 add-bytes-down-2 c = search moves
 
-sub-bytes-down : tie.Need-sub-bytes-down
+sub-bytes-down : tie.Need-sub-bytes-down Inv-loop μ-loop
 sub-bytes-down c = search moves
 
-bytes-down-requires : tie.Need-bytes-down-requires
+bytes-down-requires : tie.Need-bytes-down-requires Inv-loop μ-loop
 bytes-down-requires c κs = search moves
 
-same-length : tie.Need-same-length
+same-length : tie.Need-same-length Inv-loop μ-loop
 same-length c = search moves
 
-returns : tie.Need-returns
+returns : tie.Need-returns Inv-loop μ-loop
 returns c = search (up-last, needs)
 
 pub move-down-spec : {M : Type 1} → statement M

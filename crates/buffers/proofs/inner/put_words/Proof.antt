@@ -11,49 +11,49 @@ Inv-loop s₀ at values n j₀ s j = Worded at values s₀ s j
 abbrev μ-loop : tie.MeasureT-loop
 μ-loop s₀ at values n j₀ s j = length values - j
 
-loop-holds : tie.Need-loop-holds
+loop-holds : tie.Need-loop-holds Inv-loop μ-loop
 loop-holds c = search wording
 
-mul-v : tie.Need-mul-v
+mul-v : tie.Need-mul-v Inv-loop μ-loop
 mul-v c = search wording
 
-shared-slice-read-v : tie.Need-shared-slice-read-v
+shared-slice-read-v : tie.Need-shared-slice-read-v Inv-loop μ-loop
 shared-slice-read-v c = search wording
 
-mul-place : tie.Need-mul-place
+mul-place : tie.Need-mul-place Inv-loop μ-loop
 mul-place c = search wording
 
-add-place : tie.Need-add-place
+add-place : tie.Need-add-place Inv-loop μ-loop
 add-place c = search wording
 
-cast-s : tie.Need-cast-s
+cast-s : tie.Need-cast-s Inv-loop μ-loop
 cast-s c = search wording
 
-slice-write-s : tie.Need-slice-write-s
+slice-write-s : tie.Need-slice-write-s Inv-loop μ-loop
 slice-write-s c = search wording
 
-cast-s-2 : tie.Need-cast-s-2
+cast-s-2 : tie.Need-cast-s-2 Inv-loop μ-loop
 cast-s-2 c = search wording
 
-add-s : tie.Need-add-s
+add-s : tie.Need-add-s Inv-loop μ-loop
 add-s c = search wording
 
-slice-write-s-2 : tie.Need-slice-write-s-2
+slice-write-s-2 : tie.Need-slice-write-s-2 Inv-loop μ-loop
 slice-write-s-2 c = simp length-set (omega arith)
 
-add-j : tie.Need-add-j
+add-j : tie.Need-add-j Inv-loop μ-loop
 add-j c = search wording
 
-loop-less : tie.Need-loop-less
+loop-less : tie.Need-loop-less Inv-loop μ-loop
 loop-less c = search wording
 
-loop-again : tie.Need-loop-again
+loop-again : tie.Need-loop-again Inv-loop μ-loop
 loop-again c = search wording
 
-same-length : tie.Need-same-length
+same-length : tie.Need-same-length Inv-loop μ-loop
 same-length c = search wording
 
-returns : tie.Need-returns
+returns : tie.Need-returns Inv-loop μ-loop
 returns c = search wording
 
 pub put-words-spec : {M : Type 1} → statement M

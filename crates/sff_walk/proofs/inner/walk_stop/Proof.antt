@@ -11,37 +11,37 @@ Inv-loop increments base₀ flow₀ flows bases base flow = (bases ≡ length in
 abbrev μ-loop : tie.MeasureT-loop
 μ-loop increments base₀ flow₀ flows bases base flow = bases + 1 - base .0
 
-loop-holds : tie.Need-loop-holds
+loop-holds : tie.Need-loop-holds Inv-loop μ-loop
 loop-holds c = search walking
 
-sub-after : tie.Need-sub-after
+sub-after : tie.Need-sub-after Inv-loop μ-loop
 sub-after c = search walking
 
-shared-slice-read-after : tie.Need-shared-slice-read-after
+shared-slice-read-after : tie.Need-shared-slice-read-after Inv-loop μ-loop
 shared-slice-read-after c = search walking
 
-after-requires : tie.Need-after-requires
+after-requires : tie.Need-after-requires Inv-loop μ-loop
 after-requires c κs = search walking
 
-within-requires : tie.Need-within-requires
+within-requires : tie.Need-within-requires Inv-loop μ-loop
 within-requires c κs = search walking
 
-sub-result : tie.Need-sub-result
+sub-result : tie.Need-sub-result Inv-loop μ-loop
 sub-result c = search walking
 
-next-requires : tie.Need-next-requires
+next-requires : tie.Need-next-requires Inv-loop μ-loop
 next-requires c κs = search walking
 
-loop-less : tie.Need-loop-less
+loop-less : tie.Need-loop-less Inv-loop μ-loop
 loop-less c = search walking
 
-loop-again : tie.Need-loop-again
+loop-again : tie.Need-loop-again Inv-loop μ-loop
 loop-again c = search walking
 
-returns : tie.Need-returns
+returns : tie.Need-returns Inv-loop μ-loop
 returns c = search walking
 
-returns-2 : tie.Need-returns-2
+returns-2 : tie.Need-returns-2 Inv-loop μ-loop
 returns-2 c = search walking
 
 pub walk-stop-spec : {M : Type 1} → statement M

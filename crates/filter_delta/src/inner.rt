@@ -1,4 +1,5 @@
-// No entry points: the callers have the width from the format, whole units and the room from their tests, hence each `requires`.
+// No entry points: the callers have the width from the format, whole units and the room from their tests, hence each
+// `requires`.
 ghost use mathlib.Core.Path.{_≡_};
 ghost use Prim.Native.Nat.{_+_, _%_, _≤_};
 ghost use lib.ListN.{length};

@@ -1,4 +1,5 @@
--- Formats 64, 65 and 66, document 002's delta: "Level n means n times over: each unit less the one before, modulo the unit's range, the first less 0". Assumes nothing: these are definitions.
+-- Formats 64, 65 and 66, document 002's delta: "Level n means n times over: each unit less the one before, modulo the
+-- unit's range, the first less 0". Assumes nothing: these are definitions.
 use Prim.Native.Nat.{ℕ, zero, suc, _+_, _-_, _%_}
 use mathlib.Core.Path.{_≡_}
 use mathlib.Core.List.{List, [], _∷_}
@@ -46,7 +47,8 @@ deltaBytes w level s = unitBytes w (deltas (range w) level (unitsOf w s))
 unfoldable pub undeltaBytes : ℕ → ℕ → List ℕ → List ℕ
 undeltaBytes w level s = unitBytes w (undeltas (range w) level (unitsOf w s))
 
--- document 02 (vi), of each pass of the undo: "it turns the units of some data at one level into those of the same data at one level less, level 0 being the data"
+-- document 02 (vi), of each pass of the undo: "it turns the units of some data at one level into those of the same data
+-- at one level less, level 0 being the data"
 abbrev pub OneLevelLess : ℕ → List ℕ → List ℕ → Type 0
 OneLevelLess w before after =
     (level : ℕ) (xs : List ℕ) → Below (range w) xs → before ≡ unitBytes w (deltas (range w) (suc level) xs) → after ≡ unitBytes w (deltas (range w) level xs)

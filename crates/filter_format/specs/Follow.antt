@@ -1,4 +1,5 @@
--- Format 72: "first data byte as is, then follow[previous byte] less the byte, modulo 256". Assumes nothing: these are definitions.
+-- Format 72: "first data byte as is, then follow[previous byte] less the byte, modulo 256". Assumes nothing: these are
+-- definitions.
 use Prim.Native.Nat.{ℕ, _+_, _-_, _%_}
 use mathlib.Core.List.{List, [], _∷_}
 use lib.ListN.{getD}

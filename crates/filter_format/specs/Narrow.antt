@@ -1,4 +1,5 @@
--- Formats 70 and 71: "signed units of 2, 4 bytes; -127 to 127 as one byte, else byte 128 and the unit whole". Assumes nothing: these are definitions.
+-- Formats 70 and 71: "signed units of 2, 4 bytes; -127 to 127 as one byte, else byte 128 and the unit whole". Assumes
+-- nothing: these are definitions.
 use Prim.Native.Nat.{ℕ, zero, suc, _+_, _-_, _%_}
 use mathlib.Core.Bool.{cond}
 use mathlib.Core.List.{List, [], _∷_, _++_}

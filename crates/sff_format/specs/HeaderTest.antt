@@ -11,7 +11,8 @@ use Rattle.answers.specs.declared.Answer.{Answer}
 use Rattle.answers.specs.Answer.{when, stopped, acceptedOr, _then_}
 use Rattle.sff_format.specs.Rules.{badIndex}
 
--- "index offset at 8 (8 bytes), index length at 16 (4), reads at 20 (4), header length at 24 (2), key length K at 26 (2), flows F at 28 (2)"
+-- "index offset at 8 (8 bytes), index length at 16 (4), reads at 20 (4), header length at 24 (2), key length K at 26
+-- (2), flows F at 28 (2)"
 abbrev pub indexOffset : List ℕ → ℕ
 indexOffset b = number 8 8 b
 

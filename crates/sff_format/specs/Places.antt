@@ -1,4 +1,5 @@
--- Where a read starts: by the sizes of what stands before it, and as a walk over the bytes finds it. Assumes nothing: these are definitions.
+-- Where a read starts: by the sizes of what stands before it, and as a walk over the bytes finds it. Assumes nothing:
+-- these are definitions.
 use Prim.Native.Nat.{ℕ, zero, suc, _+_}
 use mathlib.Core.Bool.{Bool, false, cond}
 use mathlib.Core.List.{List, [], _++_}

@@ -11,7 +11,8 @@ use Rattle.answers.specs.declared.Answer.{Answer}
 use Rattle.answers.specs.Answer.{when, stopped, shifted, _then_}
 use Rattle.sff_format.specs.Rules.{leftLimit, rightLimit, walkRun, callRun}
 
--- "its length (2), name length L (2), bases N (4), quality left, quality right, adapter left, adapter right (2 each, in that order)"
+-- "its length (2), name length L (2), bases N (4), quality left, quality right, adapter left, adapter right (2 each, in
+-- that order)"
 abbrev pub sectionLength : List ℕ → ℕ → ℕ
 sectionLength b p = number 2 p b
 
@@ -49,7 +50,8 @@ clipTest p n quality-left quality-right adapter-left adapter-right =
     then when (ltb (leftLimit n) adapter-left) 9 (p + 12)
     then when (ltb (rightLimit n) adapter-right) 9 (p + 14)
 
--- 10, 11: increments xs and the bases ys that follow them, places counted from the first increment. "The walk stops at the first base that breaks this"
+-- 10, 11: increments xs and the bases ys that follow them, places counted from the first increment. "The walk stops at
+-- the first base that breaks this"
 unfoldable pub basesTest : List ℕ → List ℕ → List ℕ → Answer
 basesTest characters xs ys =
     stopped 10 (walkRun (length characters) 0 xs) (length xs)

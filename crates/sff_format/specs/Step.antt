@@ -35,7 +35,8 @@ boundary b s = pastIndex b (s .place) (s .passed-index)
 abbrev pub indexPassed : List ℕ → State → Bool
 indexPassed b s = nowPassed b (s .place) (s .passed-index)
 
--- past any index: a read; or "with no read left it answers 13, 12 or else 33", whose place is "the state's, past an index"
+-- past any index: a read; or "with no read left it answers 13, 12 or else 33", whose place is "the state's, past an
+-- index"
 unfoldable pub readOrNone : List ℕ → ℕ → ℕ → Bool → Answer
 readOrNone b p n passed =
     cond (ltb n (readCount b))

@@ -79,8 +79,9 @@ openTest b =
     then when (declared (indexOffset b) (indexLength b)) 25 0
     then when (eqb (readCount b) 4294967295) 31 0
 
--- "Appending takes a buffer, the file's length in it and one read. Order: 14 length stated above the buffer; the file's own refusal; 25 an index is present;
--- 31 reads already 4,294,967,295; 30 ..; 5 ..; 6; 9; 10; 11; 26 new length above the buffer"
+-- "Appending takes a buffer, the file's length in it and one read. Order: 14 length stated above the buffer; the file's
+-- own refusal; 25 an index is present; 31 reads already 4,294,967,295; 30 ..; 5 ..; 6; 9; 10; 11; 26 new length above
+-- the buffer"
 unfoldable pub appendTest : List ℕ → ℕ → Read → Answer
 appendTest buffer len r =
     let b = take len buffer in

@@ -1,4 +1,5 @@
-// The flow walk and the bases, for the crates above: the lists are as long as each other and no longer than a read's, hence each `requires`.
+// The flow walk and the bases, for the crates above: the lists are as long as each other and no longer than a read's,
+// hence each `requires`.
 ghost use mathlib.Core.Path.{_≡_};
 ghost use Prim.Native.Nat.{_+_, _-_, _≤_, _<_};
 ghost use lib.ListN.{length, drop};
@@ -8,7 +9,8 @@ use crate::BasePosition;
 use crate::FlowPosition;
 use answers::Answer;
 
-// The place among the increments of the first one, from base position `base` on, that breaks the walk after flow position `flow`; or their end.
+// The place among the increments of the first one, from base position `base` on, that breaks the walk after flow
+// position `flow`; or their end.
 fn walk_stop(
     increments: &[u8],
     mut base: BasePosition,

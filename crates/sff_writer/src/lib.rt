@@ -1,4 +1,5 @@
-// New files, and reads appended to a file, in a lent buffer. All reasons to refuse are judged before the first byte is written.
+// New files, and reads appended to a file, in a lent buffer. All reasons to refuse are judged before the first byte is
+// written.
 ghost use mathlib.Core.Path.{_≡_};
 ghost use Prim.Native.Nat.{_<_};
 ghost use lib.ListN.{length};
@@ -111,7 +112,8 @@ fn new_test(room: usize, flows: &[u8], key: &[u8]) -> Answer
     Answer::Accepted
 }
 
-// Puts a new file, with no reads and no index, at the front of the buffer. Answers its length, or 5, 6 or 26 and 0 with the buffer as it was.
+// Puts a new file, with no reads and no index, at the front of the buffer. Answers its length, or 5, 6 or 26 and 0 with
+// the buffer as it was.
 pub fn new_file(buffer: &mut [u8], flows: &[u8], key: &[u8]) -> Outcome
     ensures { λ r. ⌜ r ≡ newOutcome (now (buffer .entry)) (now (flows .entry)) (now (key .entry)) ⌝ }
     ensures { λ _. ⌜ now (buffer .exit) ≡ newBuffer (now (buffer .entry)) (now (flows .entry)) (now (key .entry)) ⌝ }
@@ -183,8 +185,8 @@ fn append_test(
     Answer::Accepted
 }
 
-// Puts a read behind the file that fills the first `file_length` bytes of the buffer, and counts it. Answers the file's length afterwards; refused, the
-// length that was given, with the buffer as it was.
+// Puts a read behind the file that fills the first `file_length` bytes of the buffer, and counts it. Answers the file's
+// length afterwards; refused, the length that was given, with the buffer as it was.
 pub fn append(
     buffer: &mut [u8],
     file_length: usize,

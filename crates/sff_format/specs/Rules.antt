@@ -15,7 +15,7 @@ declared offset len = not (eqb offset 0 && eqb len 0)
 unfoldable pub badIndexLength : ℕ → Bool
 badIndexLength len = ltb len 8 || not (eqb (len % 8) 0)
 
--- 8: "just one index field is 0, or index length under 8 or not a multiple of 8"
+-- what 8 refuses: "just one index field is 0, or index length under 8 or not a multiple of 8"
 unfoldable pub badIndex : ℕ → ℕ → Bool
 badIndex offset len = declared offset len && (eqb offset 0 || badIndexLength len)
 

@@ -35,7 +35,7 @@ pub enum Step {
     Stopped(u8, usize, Reader),
 }
 
-// Past an index: a read, or with none left 13, 12 or else 33.
+// Past an index: the read's tests; with no read left those of the file's end (13, 12), or else 33.
 fn read_or_none(s: &[u8], header: Header, place: usize, reads: usize, passed: bool) -> Answer
     requires { ⌜ headerTest (now s) ≡ Accepted ⌝ }
     requires { ⌜ header ≡ headerOf (now s) ⌝ }
@@ -53,7 +53,7 @@ fn read_or_none(s: &[u8], header: Header, place: usize, reads: usize, passed: bo
     Answer::Refused(33, place)
 }
 
-// 1, of an index that is due.
+// An index that is due and cut short (1).
 fn index_test(s: &[u8], header: Header, place: usize, passed: bool) -> Answer
     requires { ⌜ header ≡ headerOf (now s) ⌝ }
     requires { ⌜ Small header ⌝ }

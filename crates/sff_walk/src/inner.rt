@@ -43,9 +43,9 @@ fn is_call(characters: &[u8], flow: FlowPosition, base: u8) -> bool
     (base == characters[flow.0 - 1]) | (base == b'N')
 }
 
-// 10, 11: the walk over the increments and, in the same pass, the bases, to the place of the first base that breaks the
-// walk or is not its flow's character, or the end. All of 10 comes before any 11, so the rest of the walk goes before a
-// wrong base. Places count from the first increment, as though the bases came after them.
+// The flow walk (10) and, in the same pass, the bases (11), to the place of the first base that breaks the walk or is
+// not its flow's character, or the end. Any 10 comes before any 11, so behind a wrong base the rest of the walk is
+// tested first. Places count from the first increment, as though the bases came after them.
 pub fn bases_test(characters: &[u8], increments: &[u8], bases: &[u8]) -> Answer
     requires { ⌜ (length (now characters) < 65536) × (length (now increments) ≡ length (now bases)) × (length (now bases) < 4294967296) ⌝ }
     ensures { λ r. ⌜ r ≡ basesTest (now (characters .entry)) (now (increments .entry)) (now (bases .entry)) ⌝ }

@@ -11,7 +11,7 @@ unfoldable pub scan : (ℕ → ℕ → ℕ) → (ℕ → ℕ → ℕ) → ℕ �
 scan out next p [] = []
 scan out next p (x ∷ xs) = out p x ∷ scan out next (next p x) xs
 
--- "less the one before", modulo m; and the way back
+-- "less the one before", modulo m; and its inverse
 abbrev pub difference : ℕ → ℕ → ℕ → ℕ
 difference m p x = (x + (m - p)) % m
 
@@ -26,7 +26,7 @@ latest p x = x
 abbrev pub delta : ℕ → List ℕ → List ℕ
 delta m xs = scan (difference m) latest 0 xs
 
--- the way back: each unit and all before it together
+-- the inverse: the sum of each unit and all before it
 abbrev pub undelta : ℕ → List ℕ → List ℕ
 undelta m xs = scan (sum m) (sum m) 0 xs
 
@@ -35,7 +35,7 @@ unfoldable pub deltas : ℕ → ℕ → List ℕ → List ℕ
 deltas m zero xs = xs
 deltas m (suc level) xs = delta m (deltas m level xs)
 
--- the way back, as many times
+-- the inverse, as many times
 unfoldable pub undeltas : ℕ → ℕ → List ℕ → List ℕ
 undeltas m zero xs = xs
 undeltas m (suc level) xs = undeltas m level (undelta m xs)

@@ -14,7 +14,7 @@ unfoldable pub followed : List ℕ → List ℕ → List ℕ
 followed follow [] = []
 followed follow (x ∷ xs) = x ∷ scan (predicted follow) latest x xs
 
--- the way back: the previous byte is the data's, not the stored one
+-- the inverse: the previous byte is the data's, not the stored one
 unfoldable pub unfollowed : List ℕ → List ℕ → List ℕ
 unfollowed follow [] = []
 unfollowed follow (x ∷ xs) = x ∷ scan (predicted follow) (predicted follow) x xs

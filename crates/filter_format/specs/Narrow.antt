@@ -24,7 +24,7 @@ narrow w (u ∷ us) = narrowUnit w u ++ narrow w us
 unfoldable pub extended : ℕ → ℕ → ℕ
 extended w c = cond (ltb c 128) c (range w - 256 + c)
 
--- the way back: the bytes of the units, where `due` bytes of a whole unit are still to come
+-- the inverse: the bytes of the units, where `due` bytes of a whole unit are still to come
 unfoldable pub widen : ℕ → ℕ → List ℕ → List ℕ
 widen w due [] = []
 widen w zero (c ∷ s) = cond (eqb c 128) [] (bytesOf w (extended w c)) ++ widen w (cond (eqb c 128) w 0) s

@@ -11,7 +11,7 @@ use Rattle.answers.specs.Answer.{when, _then_, acceptedOr}
 use Rattle.filter_format.specs.declared.Filtered.{Filtered}
 use Rattle.filter_format.specs.Block.{filterAt, isRaw, isFilter, contentsTest, undone}
 
--- what a call comes to: its answer, and the bytes that it makes, none where it refuses
+-- the result of a call: its answer, and the bytes that it makes, none where it refuses
 pub record Result : Type 0 where
   pub answer : Answer
   pub bytes : List ℕ

@@ -10,7 +10,7 @@ use Rattle.sff_format.specs.HeaderTest.{headerLength, flows}
 use Rattle.sff_format.specs.ReadTest.{readEnd}
 use Rattle.sff_format.specs.FileTest.{pastIndex, nowPassed}
 
--- the read that no position has
+-- stands for the read at a position where the file has none
 abbrev pub noRead : Read
 noRead = record {
   name = [];

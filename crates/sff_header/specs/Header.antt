@@ -16,7 +16,7 @@ headerOf b = record {
   flows = flows b;
 }
 
--- what the fields' widths allow, beside the index offset's, which a number of the code's has anyway
+-- each field is below the limit of its width; the index offset has 64 bits, as every number of the code
 pub record Small (h : Header) : Type 0 where
   pub index-length-small : h .«index_length» < 4294967296
   pub reads-small : h .reads < 4294967296

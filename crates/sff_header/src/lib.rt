@@ -1,5 +1,5 @@
-// The header's tests, its flow and key characters, and what its two index fields mean. What lengths an index may have
-// and the room it takes is known to `bad_index_length` and `index_size` alone.
+// The header's tests, its flow and key characters, and what its two index fields mean. `bad_index_length` alone decides
+// which lengths an index may have, and `index_size` alone the room that it takes.
 ghost use mathlib.Core.Path.{_≡_};
 ghost use Prim.Native.Nat.{_+_, _≤_};
 ghost use lib.ListN.{length};

@@ -119,7 +119,7 @@ pub fn read_test(s: &[u8], p: usize, flows: usize) -> Answer
     let Answer::Accepted = named else {
         return named;
     };
-    // Not before the name: they would wait on the stack while it is scanned.
+    // Read after the name's test: read before it, they would be kept on the stack during the scan of the name.
     let fields = read_fields(s, p);
     let bases = fields.bases;
     let clipped = clip_test(
@@ -144,7 +144,7 @@ pub fn read_end(s: &[u8], p: usize, flows: usize) -> usize
     p + get16(s, p) + up8(2 * flows + 3 * get32(s, p + 4))
 }
 
-// What the read at p says, as far as its fields do.
+// What the fields of the read at p say of it.
 pub fn read_view(s: &[u8], p: usize, flows: usize) -> ReadView
     requires { ⌜ (p + 16 ≤ length (now s)) × (flows < 65536) ⌝ }
     ensures { λ r. ⌜ r ≡ viewAt flows (now (s .entry)) p ⌝ }

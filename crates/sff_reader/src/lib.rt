@@ -22,7 +22,7 @@ use sff_header::inner::header_fields;
 use sff_read::inner::read_test;
 use sff_read::inner::read_view;
 
-// A byte place, the reads passed, and whether the index is passed. Any values may be put in.
+// A byte place, the reads passed, and whether the index is passed. A caller may put in any values.
 pub struct Reader {
     pub place: usize,
     pub passed_reads: usize,

@@ -1,4 +1,5 @@
-// Times the library's calls beside plain C and beside memcpy or memmove of the same bytes, all in turn in each round, and writes a line for each row.
+// Times the library's calls beside plain C and beside memcpy or memmove of the same bytes, all in turn in each round,
+// and writes a line for each row.
 // usage: bench ROUNDS RESULTS    or    bench compare    or    bench write FILE, which writes the file of 100 MB
 #define _GNU_SOURCE
 #include "calls.h"
@@ -39,7 +40,8 @@ static double seconds(clockid_t clock) {
     return (double)t.tv_sec + (double)t.tv_nsec * 1e-9;
 }
 
-// The lesser of the time that passes and of the time that this program has the core: what others take of it is not counted.
+// The lesser of the time that passes and of the time that this program has the core: what others take of it is not
+// counted.
 static double time_of(Action run, Case *c, const Calls *calls) {
     double core = seconds(CLOCK_THREAD_CPUTIME_ID);
     double start = seconds(CLOCK_MONOTONIC);
@@ -96,7 +98,8 @@ static int rounds_for(size_t bytes) {
     return many < LEAST_ROUNDS ? LEAST_ROUNDS : many;
 }
 
-// From the same bytes, library and plain C answer and leave the same: number, place, length, count and every byte of both buffers.
+// From the same bytes, library and plain C answer and leave the same: number, place, length, count and every byte of
+// both buffers.
 static void agree(const char *what, Case *c, Action run) {
     const Calls *const both[2] = {&library, &plain};
     size_t n = c->room;
@@ -126,7 +129,8 @@ static void agree(const char *what, Case *c, Action run) {
     free(left[1]);
 }
 
-// group, what, bytes, what is restored, what stands third; best and median of library, plain C and the third, in nanoseconds.
+// group, what, bytes, what is restored, what stands third; best and median of library, plain C and the third, in
+// nanoseconds.
 static void say(const char *group, const char *what, size_t bytes, const char *restored, const char *third, const Subject subjects[3]) {
     fprintf(results, "%s|%s|%zu|%s|%s", group, what, bytes, restored, third);
     for (int i = 0; i < 3; i++)
@@ -282,8 +286,8 @@ static const uint8_t *other_name(size_t i) {
     return name;
 }
 
-// Ten growing renames of the first reads, each after the other, beside ten renames that keep the size; a clip record before either, so that the file is
-// tested in both alike. What lies between is the time of the moves.
+// Ten growing renames of the first reads, each after the other, beside ten renames that keep the size; a clip record
+// before either, so that the file is tested in both alike. What lies between is the time of the moves.
 static void moves_up(Case *c) {
     static uint8_t moving[(MOVES + 1) * RECORD], still[(MOVES + 1) * RECORD];
     make_clip(moving, c->file, 0);

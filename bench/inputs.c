@@ -48,7 +48,8 @@ static void make_name(uint8_t name[NAME_LENGTH], uint64_t number) {
         name[i] = "ABCDEFGHIJKLMNOPQRSTUVWXYZ0123456789"[number % 36];
 }
 
-// A random sequence behind the key, flowed over in TACG order: each flow calls the run of its character. A base in 500 is not called (N).
+// A random sequence behind the key, flowed over in TACG order: each flow calls the run of its character. A base in 500
+// is not called (N).
 void make_read(Read *read, uint64_t number, uint64_t *state) {
     size_t in_key = 1, n = 0;
     int last = 0;

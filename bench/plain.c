@@ -104,8 +104,8 @@ static Answer header_test(const uint8_t *s, size_t n, Header *h) {
     return accepted;
 }
 
-// The walk over the increments and, in the same pass, the bases. All of the walk comes before any base, so a wrong base is kept until the walk's end.
-// Places count from the first increment, as though the bases came after them.
+// The walk over the increments and, in the same pass, the bases. All of the walk comes before any base, so a wrong base
+// is kept until the walk's end. Places count from the first increment, as though the bases came after them.
 static inline Answer bases_test(const uint8_t *characters, uint64_t flows, const uint8_t *increments, const uint8_t *bases, uint64_t n) {
     uint64_t flow = 0;
     for (uint64_t k = 0; k < n; k++) {

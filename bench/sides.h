@@ -1,6 +1,7 @@
-// The calls of both sides. `h` is the library's C exports (crates/harness): numbers are 64 bits wide, slices a pointer and a length. `plain` is the same
-// in plain C: the same tests in the same order, the same answers and the same bytes left behind. It is what the library is timed beside; its answers are
-// held against the library's before anything is timed.
+// The calls of both sides. `h` is the library's C exports (crates/harness): numbers are 64 bits wide, slices a pointer
+// and a length. `plain` is the same in plain C: the same tests in the same order, the same answers and the same bytes
+// left behind. It is what the library is timed beside; its answers are held against the library's before anything is
+// timed.
 #ifndef SIDES_H
 #define SIDES_H
 #include <stddef.h>

@@ -1,6 +1,7 @@
-# Prints the table of the rows in the results of the four programs: group|what|bytes|restored|third|best and median of library, plain C and the third.
-# A time is the best of all rounds of the four programs; beside it stands the ratio by medians: the median of the programs' medians. A move is the
-# difference of two times, so it is taken within each program, and of the four the median.
+# Prints the table of the rows in the results of the four programs: group|what|bytes|restored|third|best and median of
+# library, plain C and the third. A time is the best of all rounds of the four programs; beside it stands the ratio by
+# medians: the median of the programs' medians. A move is the difference of two times, so it is taken within each
+# program, and of the four the median.
 BEGIN { FS = "|"; LIBRARY = 6; PLAIN = 8; THIRD = 10; MOVES = 10 }
 
 {

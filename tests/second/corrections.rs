@@ -191,7 +191,7 @@ const FAULTS: [Fault; 11] = [
     longer_name,
 ];
 
-/// 21, also where some bytes of the position would not show it.
+/// A position with no read (21), also one that differs from a good one in a high byte alone.
 fn position_beyond(random: &mut Random, model: &Model, record: &mut Record) {
     let reads = model.reads.len() as u32;
     let by_a_byte = 1 << random.pick(&[8, 16, 24]);
@@ -204,14 +204,14 @@ fn position_beyond(random: &mut Random, model: &Model, record: &mut Record) {
     ]);
 }
 
-/// 22, or 21 at either end.
+/// The position of a read with another name (22), or, from the first or the last read, of none (21).
 fn another_position(random: &mut Random, model: &Model, record: &mut Record) {
     let position = record.position;
     let any = random.below(model.reads.len().max(1)) as u32;
     record.position = random.pick(&[position.wrapping_add(1), position.wrapping_sub(1), any]);
 }
 
-/// 22: r1 is not r10.
+/// An old name that the read does not have (22), often nearly its own, as r10 for r1.
 fn another_old_name(random: &mut Random, model: &Model, record: &mut Record) {
     let near = like(random, &record.old_name);
     let borne = borne(random, model);
@@ -231,7 +231,7 @@ fn borne(random: &mut Random, model: &Model) -> Option<Vec<u8>> {
     Some(model.reads[random.pick(&named)].name.clone())
 }
 
-/// 22: the read has no name, or one over 40 bytes.
+/// A read that has no name, or one over 40 bytes, so that any record names another (22).
 fn read_that_none_can_name(_: &mut Random, model: &Model, record: &mut Record) {
     let found = model.reads.iter().position(|read| !can_be_named(read));
     if let Some(position) = found {
@@ -243,7 +243,7 @@ fn read_that_none_can_name(_: &mut Random, model: &Model, record: &mut Record) {
     }
 }
 
-/// 25 if there is an index.
+/// A rename or a removal, which an index forbids (25).
 fn other_kind(random: &mut Random, _: &Model, record: &mut Record) {
     let position = record.position as usize;
     *record = if random.one_in(2) {
@@ -254,7 +254,7 @@ fn other_kind(random: &mut Random, _: &Model, record: &mut Record) {
     };
 }
 
-/// 23 by one field or more, or clips that are just not above.
+/// Clips above N (23) in one field or more, or just not above.
 fn clip_above(random: &mut Random, model: &Model, record: &mut Record) {
     let position = record.position as usize;
     let read = model.reads.get(position);
@@ -267,14 +267,14 @@ fn clip_above(random: &mut Random, model: &Model, record: &mut Record) {
     *record = Record::clips(position, &record.old_name, clips);
 }
 
-/// 24, or the read's own name.
+/// A rename to another read's name (24), or to the read's own.
 fn borne_name(random: &mut Random, model: &Model, record: &mut Record) {
     if let Some(name) = borne(random, model) {
         *record = Record::rename(record.position as usize, &record.old_name, &name);
     }
 }
 
-/// 26 if there is little room.
+/// A rename that makes the file longer: no room (26) if there is little of it.
 fn longer_name(random: &mut Random, _: &Model, record: &mut Record) {
     let next_size = padded(record.old_name.len()) + 1;
     let length = random.pick(&[next_size, next_size + 8, 33, 40]).min(40);
@@ -282,7 +282,7 @@ fn longer_name(random: &mut Random, _: &Model, record: &mut Record) {
     *record = Record::rename(record.position as usize, &record.old_name, &name);
 }
 
-/// 20: a record's bytes with one or some of them wrong, or too many or too few.
+/// A malformed record (20): one or some of its bytes wrong, or too many or too few of them.
 fn spoil(random: &mut Random, record: &mut Vec<u8>) {
     let (old_end, new_end) = (16 + usize::from(record[1]), 56 + usize::from(record[2]));
     let anywhere = random.below(96);

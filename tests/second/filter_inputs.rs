@@ -284,13 +284,13 @@ fn spoil(random: &mut Random, block: &mut Vec<u8>) {
     }
 }
 
-/// 40, of the block or of the one inside
+/// An empty block (40), or one that gives an empty block
 fn emptied(random: &mut Random, block: &mut Vec<u8>) {
     let format = block.first().copied().unwrap_or(0);
     block.truncate(random.pick(&[0, header_length(format)]));
 }
 
-/// 40, with any level
+/// A header cut short (40), with any level
 fn cut_in_header(random: &mut Random, block: &mut Vec<u8>) {
     let format = block.first().copied().unwrap_or(0);
     let most = header_length(format) - 1;
@@ -302,7 +302,7 @@ fn cut_in_header(random: &mut Random, block: &mut Vec<u8>) {
     }
 }
 
-/// 41
+/// Another format (41)
 fn other_format(random: &mut Random, block: &mut Vec<u8>) {
     let format = random.pick(&OTHER_FORMATS);
     match block.first_mut() {
@@ -317,7 +317,7 @@ fn another_filter(random: &mut Random, block: &mut Vec<u8>) {
     }
 }
 
-/// 42
+/// A level that is not 1 to 3 (42)
 fn wrong_level(random: &mut Random, block: &mut Vec<u8>) {
     if let [64..=66, level, ..] = &mut block[..] {
         *level = match random.below(4) {
@@ -327,7 +327,7 @@ fn wrong_level(random: &mut Random, block: &mut Vec<u8>) {
     }
 }
 
-/// 42, by one of the two bytes or by both
+/// One or both of the zeros of format 66 wrong (42)
 fn wrong_zeros(random: &mut Random, block: &mut Vec<u8>) {
     if let [66, _, third, fourth, ..] = &mut block[..] {
         let value = random.between(1, 255) as u8;
@@ -339,7 +339,7 @@ fn wrong_zeros(random: &mut Random, block: &mut Vec<u8>) {
     }
 }
 
-/// 43 where the units have several bytes: some bytes more or fewer.
+/// Some bytes more or fewer: not whole units (43) where these have several bytes.
 fn wrong_end(random: &mut Random, block: &mut Vec<u8>) {
     let count = random.between(1, 3);
     if random.one_in(2) {
@@ -350,7 +350,7 @@ fn wrong_end(random: &mut Random, block: &mut Vec<u8>) {
     }
 }
 
-/// 43 of formats 70 and 71; sometimes just as many bytes as a unit has.
+/// In formats 70 and 71 a last 128 with too few bytes after it (43); sometimes just as many as a unit has.
 fn cut_after_128(random: &mut Random, block: &mut Vec<u8>) {
     if let Some(format @ (70 | 71)) = block.first().copied() {
         let count = random.between(0, unit_width(format));

@@ -222,7 +222,7 @@ impl running::Comparison for Comparison {
             key: Counts::new(false, &counts::OF_CHARACTERS),
             fresh: Counts::new(false, &["0 at the header's end", "0 at the front"]),
             step: Counts::new(true, &["33"]),
-            // 1 alone: the state's place is beyond the file.
+            // "1" without a section: the state's place is beyond the file.
             forged_step: Counts::new(true, &["1", "33"]),
             view: Counts::new(false, &counts::OF_VIEW),
             insert: Counts::new(true, &["0 empty", "21"]),

@@ -667,7 +667,7 @@ fn a_refusal_in_a_list() {
     let mut records = list(&[Record::remove(0, b"a"), right.clone(), right]);
     records[2 * 96] = 0;
     assert_eq!(list_outcome(&buffer, 136, &records).0, (2, 20, 0, 88));
-    // 14 and the file's own come at the first record
+    // a length above the buffer (14) and the file's own refusals come at the first record
     assert_eq!(list_outcome(&buffer, 140, &records).0, (0, 14, 0, 140));
     assert_eq!(list_outcome(&buffer, 137, &records).0, (0, 12, 136, 137));
     records[0] = 0;

@@ -78,19 +78,19 @@ fn the_marked_cases() {
 #[test]
 fn levels_of_each_width() {
     let trace = [10, 20, 10, 200, 190, 5];
-    // 10 0 236 200 56 81 once more
+    // level 2 gives 10 0 236 200 56 81; level 3 is the differences of these
     both_ways(3, &[], &trace, &[64, 3, 10, 246, 236, 220, 112, 25]);
-    // 1 3 65535: 1 2 65532; 1 1 65530; 1 0 65529
+    // the words 1 3 65535: level 1 gives 1 2 65532, level 2 gives 1 1 65530, level 3 gives 1 0 65529
     let words = [0, 1, 0, 3, 255, 255];
     both_ways(1, &[], &words, &[65, 1, 0, 1, 0, 2, 255, 252]);
     both_ways(2, &[], &words, &[65, 2, 0, 1, 0, 1, 255, 250]);
     both_ways(3, &[], &words, &[65, 3, 0, 1, 0, 0, 255, 249]);
-    // 2^31 and 0: 2^31 2^31; 2^31 0; 2^31 2^31
+    // the units 2^31 0: level 1 gives 2^31 2^31, level 2 gives 2^31 0, level 3 gives 2^31 2^31
     let far = [128, 0, 0, 0, 0, 0, 0, 0];
     both_ways(1, &[], &far, &[66, 1, 0, 0, 128, 0, 0, 0, 128, 0, 0, 0]);
     both_ways(2, &[], &far, &[66, 2, 0, 0, 128, 0, 0, 0, 0, 0, 0, 0]);
     both_ways(3, &[], &far, &[66, 3, 0, 0, 128, 0, 0, 0, 128, 0, 0, 0]);
-    // 1 0: the borrow goes through all bytes
+    // the units 1 0: the borrow goes through all bytes of the second
     let one = [0, 0, 0, 1, 0, 0, 0, 0];
     both_ways(1, &[], &one, &[66, 1, 0, 0, 0, 0, 0, 1, 255, 255, 255, 255]);
 }
@@ -170,7 +170,7 @@ fn a_block_of_format_0() {
 /// The last filter's result has the format byte too.
 #[test]
 fn a_filter_needs_room_for_the_block_that_it_gives() {
-    // 0 7 8: differences 0 7 1
+    // the block inside is 0 7 8, stored as the differences 0 7 1
     let block = [64, 1, 0, 7, 1];
     assert_eq!(number(undo, &block, 2), 26);
     let (answer, buffers) = in_buffers(undo, &block, [5, 3]);
@@ -187,7 +187,8 @@ fn a_filter_needs_room_for_the_block_that_it_gives() {
 /// 70 over 64 over format 0: the middle result is the longest.
 #[test]
 fn room_for_a_middle_layer() {
-    // 64 1 0 5, whole and short: the block inside has 4 bytes, its own inside 2, the data 1
+    // the first unit (64 1) whole and the second (0 5) in one byte: the block inside has 4 bytes, the one inside that
+    // 2, the data 1
     let block = [70, 128, 64, 1, 5];
     let inside = [64, 1, 0, 5];
     let (answer, [first, _]) = in_buffers(undo_layer, &block, [4, 4]);
@@ -289,7 +290,7 @@ fn units_before_the_room() {
             assert_eq!(number(call, block, 0), 43);
         }
     }
-    // 128 within a whole unit begins none
+    // a byte 128 within a whole unit begins no other unit
     assert_eq!(number(undo_layer, &[70, 128, 128, 128], 2), 0);
     assert_eq!(number(undo_layer, &[71, 128, 128, 128, 128, 128], 4), 0);
 }
@@ -362,7 +363,7 @@ fn encoding_looks_at_no_more_than_the_format_has() {
 #[test]
 fn encoding_needs_room_for_the_block() {
     let follow = [3; 256];
-    // 43 before 26
+    // data that are not whole units (43) are refused before the lack of room (26)
     assert_eq!(numbers(encode(65, 1, &[], &[1], &mut [])), (43, 0));
     let cases: [(u64, &[u8], usize); 6] = [
         (64, &[1, 2], 4),

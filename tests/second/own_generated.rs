@@ -80,7 +80,7 @@ fn every_answer_of_a_correction_occurs_ten_times() {
     assert!(of_lists.below(10).is_empty(), "{:?}", of_lists.below(10));
 }
 
-/// 20 by one wrong byte, at each place that can be wrong alone; the position cannot.
+/// A record malformed (20) by one wrong byte, at each place that can be wrong alone; the position cannot.
 #[test]
 fn every_byte_of_a_record_is_spoiled_alone() {
     let mut spoiled = [0; 96];

@@ -128,7 +128,7 @@ pub fn test_header(file: &[u8]) -> Result<Header<'_>, Refusal> {
     if length as u64 != up8(key_end as u64) {
         return refuse(5, 24, Section::Header);
     }
-    // 1, with the whole header
+    // 1: "section runs past the end", now of the whole header
     if file.len() < length {
         return refuse(1, 0, Section::Header);
     }
@@ -264,7 +264,7 @@ fn test_read<'a>(file: &'a [u8], header: &Header, start: usize) -> Result<Read<'
         }
     }
 
-    // 1 (data): the size is below 2^34, the bytes left are counted and not the end
+    // 1, of the data section: its size is compared with the bytes left, so that no sum can wrap
     let flow_count = header.flows.len();
     let contents = 2 * flow_count as u64 + 3 * base_count;
     if ((left - length) as u64) < up8(contents) {

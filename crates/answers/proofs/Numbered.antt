@@ -1,4 +1,5 @@
--- What all refusals of a chain of tests have in common: a property of number and place, as that the number is one of a list's. Assumes nothing.
+-- What all refusals of a chain of tests have in common: a property of number and place, as that the number is one of a
+-- list's. Assumes nothing.
 use Prim.Native.Nat.{ℕ}
 use mathlib.Core.Path.{_≡_, refl, sym, _∙_}
 use mathlib.Core.Bool.{Bool, true, false, _&&_, _||_}

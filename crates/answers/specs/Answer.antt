@@ -27,7 +27,8 @@ unfoldable pub _then_ : Answer → Answer → Answer
 Accepted then b = b
 (Refused n p) then b = Refused n p
 
--- number n at the place where a scan stopped, if it stopped short of the end: "Within one test the lowest place is named"
+-- number n at the place where a scan stopped, if it stopped short of the end: "Within one test the lowest place is
+-- named"
 abbrev pub stopped : ℕ → ℕ → ℕ → Answer
 stopped n p end = when (ltb p end) n p
 

@@ -1,4 +1,5 @@
--- "exactly when no reason to refuse holds, else the first that holds": what that says of a list of reasons. Assumes nothing: these are definitions.
+-- "exactly when no reason to refuse holds, else the first that holds": what that says of a list of reasons. Assumes
+-- nothing: these are definitions.
 use mathlib.Core.Path.{_≡_}
 use mathlib.Core.Logic.{_⊎_}
 use mathlib.Core.List.{List, [], _∷_}

@@ -1,9 +1,12 @@
 -- Condition C of the tender, "checked statements": "Rattle's checker accepts the following, for every input." Each of
--- its sentences stands here word for word, in its order, and beside it a theorem over the entry points' definitions.
--- "Code" names the functions that promise to answer and to leave what the definitions say. "Shuts out" names wrong
--- programs, each with the must-fail edits that show it: a/b is crates/a/must-fail/b.edit, a wrong program or a wrong
--- definition that the check refuses. `Bytes` says of a list of numbers that each is a byte, as in every lent slice.
--- Assumes nothing.
+-- its sentences stands here word for word, in its order, and under it a theorem over the entry points' definitions.
+-- Above a theorem stand:
+--   - the sentence, in quotation marks;
+--   - how the theorem says it;
+--   - "Code": the functions that promise to answer and to leave what the definitions say;
+--   - "Shuts out": wrong programs that the theorem excludes, one in each item, with the must-fail edits that show it.
+--     An edit a/b is crates/a/must-fail/b.edit: it makes a function or a definition wrong, and the check refuses it.
+-- `Bytes` says of a list of numbers that each is a byte, as in every lent slice. Assumes nothing.
 use Prim.Native.Nat.{ℕ, suc, _+_, _*_, _/_, _%_, _≤_, _<_, max}
 use native.Mathlib.Omega.{arith}
 use mathlib.Core.Path.{_≡_, refl, ap}
@@ -55,12 +58,12 @@ use Rattle.claims.specs.Marked.{All, table}
 use Rattle.claims.proofs.Rows.{row-numbers, row-refused, none-is-zero}
 use Rattle.claims.proofs.MarkedCases.{marked}
 
--- DEMAND 1
+-- DEMAND 1: every call is safe and answers with a number, and what a refusal leaves
 
 -- "No input leads to undefined behaviour or an endless run."
--- This is no theorem of this file: it is what the check asks of every function before it accepts one. Whatever a
--- function is given, it reads and writes inside what it is lent, no sum wraps, no cast loses bits, and it returns.
--- A function with a `requires` is proved to be called only where that holds; no entry point has one (tests/names).
+-- This has no theorem here: the check asks it of every function before it accepts one. Whatever a function is given, it
+-- reads and writes inside what it is lent, no sum wraps, no cast loses bits, and it returns. A function with a
+-- `requires` is proved to be called only where that holds; no entry point has one (tests/names).
 
 -- "Each public entry point tests for itself and answers, or has a companion call that answers, with a number from
 -- document 01's list."
@@ -68,8 +71,9 @@ use Rattle.claims.proofs.MarkedCases.{marked}
 -- answer in its row.
 -- Code: each function of the table.
 -- Shuts out:
---   a call with a number of its own (sff_find/another_number, sff_format/number_of_its_own)
---   a refusal with the number 0 (sff_format/refusal_with_0)
+--   - a call that answers a number which document 01 does not name for it (sff_find/another_number,
+--     sff_format/number_of_its_own)
+--   - a refusal with the number 0 (sff_format/refusal_with_0)
 pub record Answers (r : Row) : Type 0 where
   pub listed : Among documentNumbers (r .answer)
   -- it is one that document 01 names for this call
@@ -84,11 +88,11 @@ each-answers c =
     record { listed = listed; own = n .0; zero = (zero-accepted documentNumbers none-is-zero (row c .answer) listed, ap numberOf) }
 
 -- "A refused correction changes no byte of the file's buffer;"
--- The length is "the length given".
+-- The length that is answered then is "the length given".
 -- Code: `sff_corrector::correct`, and `service::sffstore_correct` over it.
 -- Shuts out:
---   a corrector that writes though it refuses (sff_correction/written_though_refused)
---   one that answers another length then (sff_correction/refused_length_is_0)
+--   - a corrector that writes though it refuses (sff_correction/written_though_refused)
+--   - a corrector that answers another length when it refuses (sff_correction/refused_length_is_0)
 pub refused-unchanged : (buffer : List ℕ) (len : ℕ) (r : List ℕ) → (numberOf (correctOutcome buffer len r .answer) ≡ 0 → ⊥)
     → (correctOutcome buffer len r .length ≡ len) × (correctBuffer buffer len r ≡ buffer)
 refused-unchanged = refused-left
@@ -102,53 +106,54 @@ refused-unchanged = refused-left
 -- `filter_encode::encode`; `scf_samples::encode_samples`, `undo_samples`; `listing::list`, `print`; `report::report`,
 -- `too_long`; `unfiltering::print`; `service::sffstore_correct`.
 -- Shuts out:
---   an undo that leaves a buffer as it was (filters/second_not_zeroed, claims/refused_undo_leaves_the_second)
---   a list that takes back what its earlier records did (claims/refused_list_changes_nothing)
---   a text that is put though it is refused (text/put_though_refused)
+--   - a refused undo that leaves a buffer as it was (filters/second_not_zeroed, claims/refused_undo_leaves_the_second)
+--   - a list that takes back what its earlier records did (claims/refused_list_changes_nothing)
+--   - a text that is put though it is refused (text/put_though_refused)
 pub memory-after-refusal : (c : Call) → (numberOf (row c .answer) ≡ 0 → ⊥) → row c .memory ≡ row c .if-refused
 memory-after-refusal = row-refused
 
--- DEMAND 2
+-- DEMAND 2: the file, reading and writing, the sample filters
 
 -- "A file is accepted exactly if it keeps the SFF rules as document 01 narrows them."
--- It is, byte for byte, some file that keeps them (`Valid`), written afresh (`layout`).
+-- It is accepted exactly if its bytes are some file that keeps them (`Valid`), written afresh (`layout`).
 -- Code: `sff::file_test`, and `service::sffstore_test` over it.
 -- Shuts out:
---   a test that refuses everything (sff/refuses_everything)
---   one that accepts everything (sff/accepts_everything), and so each that gives one answer throughout
---   bytes left over (sff/leftover_bytes)
---   padding that is not tested (sff_header/padding_not_tested)
---   a base that is not the flow's (sff_walk/any_base)
+--   - a test that refuses everything (sff/refuses_everything)
+--   - a test that accepts everything (sff/accepts_everything); with the item before, any that always answers the same
+--   - a test that accepts bytes left over (sff/leftover_bytes)
+--   - a test that accepts any padding (sff_header/padding_not_tested)
+--   - a test that accepts a base that is not the flow's (sff_walk/any_base)
 pub accepted-exactly : (b : List ℕ) → (Bytes b × (numberOf (fileTest b) ≡ 0)) ↔ IsFile b
 accepted-exactly b = ((λ t. accepted b .0 (t .0, file-zero b (t .1))), (λ t. (accepted b .1 t .0, ap numberOf (accepted b .1 t .1))))
 
--- and it is then that one alone
+-- and no other file that keeps them has these bytes
 pub one-meaning : (f g : File) → Valid f → Valid g → layout f ≡ layout g → f ≡ g
 one-meaning = one-file
 
 -- "Reads written and read back come back the same,"
--- Of a new file and an append for each read (`writeEach`), in any buffer that holds them, the reader gives (`readBack`)
--- the reads that were written.
+-- After a new file and an append for each read (`writeEach`), in any buffer that holds them, the reader gives
+-- (`readBack`) the reads that were written.
 -- Code: `sff_writer::new_file` and `append`; `Reader::fresh` and `step`, and the accessors of `sff_view`.
 -- Shuts out:
---   a writer that does not count (sff_writer/count_not_raised, sff_format/appended_not_counted)
---   one that lays parts out in another order (sff_sections/qualities_before_bases, sff_sections/clips_changed_about)
---   a reader that stays or leaps (sff_format/step_stays, sff_reader/step_past_two)
---   an accessor that hands out another part (sff_view/bases_are_increments)
+--   - a writer that does not count the read (sff_writer/count_not_raised, sff_format/appended_not_counted)
+--   - a writer that lays parts out in another order (sff_sections/qualities_before_bases,
+--     sff_sections/clips_changed_about)
+--   - a reader whose step counts no read, or two (sff_format/step_stays, sff_reader/step_past_two)
+--   - an accessor that hands out another part (sff_view/bases_are_increments)
 pub written-and-read-back : (f : File) → f .index ≡ noIndex → Valid f → (buffer : List ℕ) → length (layout f) ≤ length buffer
     → readBack (take (writeEach buffer f .outcome .length) (writeEach buffer f .buffer)) ≡ f .reads
 written-and-read-back = written-back
 
 -- "and a file without an index, read and written again, gives its own bytes."
--- Its characters and its reads as the calls hand them out, written into any buffer that holds them, whose other bytes
--- stay.
+-- Its characters and its reads as the calls hand them out, written into any buffer that holds them, are its bytes at
+-- the buffer's front; the other bytes stay.
 -- Code: `sff_header::flow_characters` and `key`; `Reader::fresh` and `step`, and the accessors of `sff_view`;
 -- `sff_writer::new_file` and `append`.
 -- Shuts out:
---   padding that is not zero (sff_sections/padding_not_zero)
---   names without padding (sff_format/names_unpadded)
---   the key before the flow characters (sff_sections/key_first, sff_format/key_first)
---   another format code (sff_sections/format_code_0)
+--   - a writer of padding that is not zero (sff_sections/padding_not_zero)
+--   - a layout of names without padding (sff_format/names_unpadded)
+--   - a writer or a layout with the key before the flow characters (sff_sections/key_first, sff_format/key_first)
+--   - a writer of another format code (sff_sections/format_code_0)
 pub read-and-written-again : (b : List ℕ) → Bytes b → fileTest b ≡ Accepted → declared (indexOffset b) (indexLength b) ≡ false → (buffer : List ℕ) → length b ≤ length buffer
     → writeEach buffer (record { flow-characters = fileFlowCharacters b; key = fileKey b; index = noIndex; reads = readBack b })
     ≡ record { outcome = record { answer = Accepted; length = length b }; buffer = putAt 0 b buffer }
@@ -157,12 +162,16 @@ read-and-written-again = written-again
 -- "Each sample filter undoes its own encoding as the ZTR and SCF rules define it."
 -- Code: `filter_encode::encode`, `filters::undo_layer`; `scf_samples::encode_samples` and `undo_samples`.
 -- Shuts out:
---   -128 in one byte (filter_narrow/minus_128_in_one_byte, filter_format/minus_128_in_one_byte)
---   -127 in long form, which undoing takes all the same (filter_format/minus_127_in_long_form)
---   the stored byte remembered (filter_follow/stored_byte_remembered, filter_format/stored_byte_remembered)
---   a level that is left (filter_delta/last_level_left, filter_format/no_level_undone)
---   a difference the other way (filter_delta/difference_the_other_way, filter_format/difference_the_other_way)
---   samples at one level (scf_samples/one_level_only)
+--   - formats 70 and 71 with -128 in one byte (filter_narrow/minus_128_in_one_byte,
+--     filter_format/minus_128_in_one_byte)
+--   - formats 70 and 71 with -127 in long form, which undoing accepts all the same
+--     (filter_format/minus_127_in_long_form)
+--   - format 72 undone with the stored byte as the previous one (filter_follow/stored_byte_remembered,
+--     filter_format/stored_byte_remembered)
+--   - a delta of which a level is not undone (filter_delta/last_level_left, filter_format/no_level_undone)
+--   - a delta of the unit before less the unit (filter_delta/difference_the_other_way,
+--     filter_format/difference_the_other_way)
+--   - SCF samples at one level (scf_samples/one_level_only)
 pub record EachFilter : Type 0 where
   -- "undoes its own encoding": for every format, level and follow bytes that encoding accepts, wherever the data fit
   pub undone : (room room' format level : ℕ) (follow s : List ℕ) → Bytes s → Bytes follow → numberOf (encode room format level follow s .answer) ≡ 0 → length s ≤ room'
@@ -183,26 +192,27 @@ each-filter = record {
   by-scf = samples-by-rule;
 }
 
--- DEMAND 3
+-- DEMAND 3: corrections, by one record and by every list of records
 
--- One record, on any buffer with any length stated. The reasons in document 01's order are the table `reasonsAgainst`;
--- c is what the record says, f what the file says, and `new` that with the correction carried out.
+-- One record, on any buffer with any length stated; the sentences stand at the fields. The reasons in document 01's
+-- order are the table `reasonsAgainst`; c is what the record says, f what the file says, and `new` that with the
+-- correction carried out.
 -- Code: `sff_corrector::correct`, and `service::sffstore_correct` over it.
 -- Shuts out:
---   a corrector that writes nothing (sff_edit/writes_nothing, sff_correction/writes_nothing)
---   one that refuses everything (sff_corrector/refuses_everything)
---   one that compares the position alone (sff_correction/position_alone)
---   one that asks in another order (sff_correction/index_before_name)
---   one that overwrites reads not yet moved (splice/low_end_first)
---   one that leaves what is freed (splice/freed_bytes_left)
---   one that still counts a read taken out (sff_edit/count_not_lowered)
+--   - a corrector that writes nothing (sff_edit/writes_nothing, sff_correction/writes_nothing)
+--   - a corrector that refuses everything (sff_corrector/refuses_everything)
+--   - a corrector that compares the position and not the name (sff_correction/position_alone)
+--   - a corrector that tests the reasons in another order (sff_correction/index_before_name)
+--   - a corrector that overwrites reads not yet moved (splice/low_end_first)
+--   - a corrector that does not zero the freed bytes (splice/freed_bytes_left)
+--   - a corrector that still counts a removed read (sff_edit/count_not_lowered)
 pub record OneRecordOn (buffer : List ℕ) (len : ℕ) (r : List ℕ) (c : Correction) (f new : File) : Type 0 where
   -- "Whatever bytes are lent as the file and as a correction record, and whatever file length is stated, the correction
   -- is carried out, with number 0, exactly when none of document 01's reasons to refuse holds."
   pub carried-out : (numberOf (correctOutcome buffer len r .answer) ≡ 0) ↔ NoneHolds (reasonsAgainst buffer len r)
   -- "Otherwise it answers the first that holds, in document 01's order."
   pub else-first : FirstHolds (reasonsAgainst buffer len r) (correctOutcome buffer len r .answer)
-  -- with another number than 0: the length given, and every byte as it was
+  -- refused, with a number other than 0: the length given is answered, and every byte is as it was
   pub refused : (numberOf (correctOutcome buffer len r .answer) ≡ 0 → ⊥) → (correctOutcome buffer len r .length ≡ len) × (correctBuffer buffer len r ≡ buffer)
   -- "Once carried out, the file is, byte for byte, what writing afresh gives": `new`, laid out; then zeros up to the
   -- longer of both lengths, and the rest of the buffer as it was
@@ -220,7 +230,7 @@ pub record OneRecordOn (buffer : List ℕ) (len : ℕ) (r : List ℕ) (c : Corre
       take (readPlace (take len buffer) (c .position)) (take len buffer)
       ++ (layoutReads (instead (c .change) (readAt f (c .position))) ++ drop (readPlace (take len buffer) (c .position) + length (layoutRead (readAt f (c .position)))) (take len buffer))
       )
-  -- and that file keeps the rules
+  -- the corrected file keeps the rules
   pub valid : numberOf (correctOutcome buffer len r .answer) ≡ 0 → Valid new
 
 abbrev pub OneRecord : List ℕ → ℕ → List ℕ → Type 0
@@ -247,23 +257,23 @@ one-answer = one-first
 -- for each of its reads, with that one changed or left out, leave in any buffer that holds it.
 -- Code: `sff_corrector::correct`; `sff_writer::new_file` and `append`.
 -- Shuts out:
---   a corrector and a writer that lay a read out each in its own way (sff_edit/name_length_not_written,
---   sff_sections/name_for_the_bases)
+--   - a corrector and a writer that lay a read out differently (sff_edit/name_length_not_written,
+--     sff_sections/name_for_the_bases)
 pub in-place-is-afresh : (buffer : List ℕ) (len : ℕ) (r : List ℕ) → Bytes buffer → Bytes r → numberOf (correctOutcome buffer len r .answer) ≡ 0 → parse (take len buffer) .index ≡ noIndex
     → (other : List ℕ) → length (layout (edited (parseRecord r) (parse (take len buffer)))) ≤ length other
     → writeEach other (edited (parseRecord r) (parse (take len buffer)))
     ≡ record { outcome = correctOutcome buffer len r; buffer = putAt 0 (take (correctOutcome buffer len r .length) (correctBuffer buffer len r)) other }
 in-place-is-afresh = corrected-written
 
--- Every list, in one claim: f is what the file says, `all` how many records there are, `count` the count that is
--- answered, and `before k` what a list of the first k records leaves.
+-- A list of whole records on an accepted file; the sentences stand at the fields. f is what the file says, `all` how
+-- many records there are, `count` the count that is answered, and `before k` what a list of the first k records leaves.
 -- Code: `sff_corrector::correct_list`.
 -- Shuts out:
---   a list run that does its first record only (sff_corrector/first_record_only, sff_correction/first_record_only)
---   one with an invented count (sff_corrector/invented_count, sff_correction/invented_count)
---   one that judges each record on the file, or its length, at the start (sff_correction/file_of_the_start,
---   sff_correction/length_of_the_start)
---   one that goes on from a place where no read starts (sff_corrector/mark_elsewhere)
+--   - a list run that does its first record only (sff_corrector/first_record_only, sff_correction/first_record_only)
+--   - a list run with an invented count (sff_corrector/invented_count, sff_correction/invented_count)
+--   - a list run that judges each record on the file, or its length, at the start (sff_correction/file_of_the_start,
+--     sff_correction/length_of_the_start)
+--   - a list run that looks for a read from a place where no read starts (sff_corrector/mark_elsewhere)
 pub record WholeList (buffer : List ℕ) (len : ℕ) (l : List ℕ) (f : File) (all count : ℕ) (before : ℕ → Run) : Type 0 where
   -- "For every list of whole records, run on any accepted file, those carried out are exactly the ones before the first
   -- for which a reason to refuse holds in its turn,"
@@ -280,13 +290,14 @@ pub record WholeList (buffer : List ℕ) (len : ℕ) (l : List ℕ) (f : File) (
       → runList buffer len l ≡ ran count (correctOutcome (before count .buffer) (before count .outcome .length) (recordAt count l) .answer) (before count .outcome .length) (before count .buffer)
   -- document 01: "Demand 3 holds of each record in its turn"
   pub each : (k : ℕ) → k ≤ count → k < all → OneRecord (before k .buffer) (before k .outcome .length) (recordAt k l)
-  -- of its reasons 14 and the file's refusal never hold then, which is why `reasonsInTurn` has the others alone
+  -- a record in its turn finds an accepted file that fits the buffer: so 14 and the file's refusal never hold, and
+  -- `reasonsInTurn` has the other reasons alone
   pub reasons : (k : ℕ) → k ≤ count → NoneHolds (reasonsAgainst (before k .buffer) (before k .outcome .length) (recordAt k l)) ↔ NoneHolds (reasonsInTurn (length buffer) k l f)
   -- "The file is then what writing afresh gives from its header, any index, and the reads as these records, one after
   -- the other, have left them."
   pub file : take (runList buffer len l .outcome .length) (runList buffer len l .buffer) ≡ layout (fileAfter count (correctionAt l) f)
   pub same-header : (fileAfter count (correctionAt l) f .flow-characters ≡ f .flow-characters) × (fileAfter count (correctionAt l) f .key ≡ f .key) × (fileAfter count (correctionAt l) f .index ≡ f .index)
-  -- and it keeps the rules
+  -- the file that is left keeps the rules
   pub valid : Valid (fileAfter count (correctionAt l) f)
 
 pub record EveryList (buffer : List ℕ) (len : ℕ) (l : List ℕ) : Type 0 where
@@ -294,7 +305,7 @@ pub record EveryList (buffer : List ℕ) (len : ℕ) (l : List ℕ) : Type 0 whe
   -- whole buffer": `listAfresh` says what is answered and left, also for a list that is not whole or is empty, and for
   -- a file that is refused
   pub whole : runList buffer len l ≡ listAfresh buffer len l
-  -- whole records on an accepted file
+  -- the sentences' case: whole records on an accepted file
   pub on-file : len ≤ length buffer → fileTest (take len buffer) ≡ Accepted → length l % 96 ≡ 0
       → WholeList buffer len l (parse (take len buffer)) (length l / 96) (runList buffer len l .outcome .count) (λ k. runList buffer len (firstRecords k l))
 
@@ -320,8 +331,8 @@ list-corrected buffer len l y z = record {
 -- THE MARKED CASES of document 01, "one table under one statement": every row of `table` holds, computed from the
 -- definitions.
 -- Shuts out:
---   a clip of 4 on 3 bases accepted (claims/clip_above_bases)
---   another place for a header cut short (claims/another_place)
---   freed bytes left (claims/freed_bytes_left)
+--   - a row in which a clip of 4 on 3 bases is accepted (claims/clip_above_bases)
+--   - a row in which a header cut short is refused at another place (claims/another_place)
+--   - a row in which a removal leaves the freed bytes as they were (claims/freed_bytes_left)
 pub marked-cases : All table
 marked-cases = marked

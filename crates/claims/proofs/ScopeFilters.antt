@@ -33,9 +33,9 @@ refused-samples room precision s h = ap length (encode-samples-none room precisi
 pub refused-samples-back : (room precision : ℕ) (s : List ℕ) → (numberOf (undoSamples room precision s .answer) ≡ 0 → ⊥) → filtered (undoSamples room precision s) .made ≡ 0
 refused-samples-back room precision s h = ap length (undo-samples-none room precision s h)
 
--- "64, 65, 66: level byte, 1 to 3 here (66: then two zeros), data in units of 1, 2, 4 bytes". Of
--- such a block, of units of w bytes whose data start at `start`: what is opened has such a level, and zeros; any
--- other header is 42, where the tests before it pass
+-- "64, 65, 66: level byte, 1 to 3 here (66: then two zeros), data in units of 1, 2, 4 bytes". Of such a block, of units
+-- of w bytes whose data start at `start`: one that is undone has such a level, and zeros; any other header is 42, where
+-- the tests before it pass
 pub level-of-block : (room w start : ℕ) (b : List ℕ) → DeltaFormat (getD b 0 0) w start → numberOf (undoLayer room b .answer) ≡ 0
     → (1 ≤ getD b 1 0) × (getD b 1 0 ≤ 3) × (start ≡ 4 → (getD b 2 0 ≡ 0) × (getD b 3 0 ≡ 0))
 level-of-block room w start b d carried =

@@ -20,7 +20,7 @@ use Rattle.sff_correction.proofs.InOrder.{rows-agree}
 
 -- A well-formed record says one correction, which keeps the rules and is laid out as that record.
 -- Shuts out:
---   a clip read at another's place (sff_correction/clip_of_another_place)
+--   - a record of which one clip is read at another's place (sff_correction/clip_of_another_place)
 pub what-a-record-says : (r : List ℕ) → Bytes r → recordTest r ≡ Accepted → ValidCorrection (parseRecord r) × (layoutRecord (parseRecord r) ≡ r)
 what-a-record-says r y e = (parsed-valid r y e, parsed-laid r y e)
 
@@ -28,10 +28,11 @@ what-a-record-says r y e = (parsed-valid r y e, parsed-laid r y e)
 pub the-record-of : (c : Correction) → ValidCorrection c → (recordTest (layoutRecord c) ≡ Accepted) × (parseRecord (layoutRecord c) ≡ c)
 the-record-of c v = (record-taken c v, laid-parsed c v)
 
--- The tests 21, 22, 25, 23, 24, 26 and the reasons in words of the model agree row by row.
+-- The correction's own reasons as tests (21, 22, 25, 23, 24, 26, in this order) and in words of the model agree row by
+-- row.
 -- Shuts out:
---   a test in another's row (sff_correction/index_before_name)
---   a test of a read that is not there (sff_correction/name_of_no_read)
+--   - a test in another's row (sff_correction/index_before_name)
+--   - a test that asks for the name of a read that is not there (sff_correction/name_of_no_read)
 pub tests-agree : (room : ℕ) (c : Correction) (f : File) → RowByRow (reasonRows room c f) (ownReasons room c f)
 tests-agree = rows-agree
 

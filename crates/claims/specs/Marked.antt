@@ -16,15 +16,19 @@ use Rattle.sff_correction.specs.Correct.{correctOutcome, correctBuffer}
 use Rattle.filter_format.specs.Undo.{making, undoLayer}
 use Rattle.filter_format.specs.Encode.{encode}
 
--- what a row says: a file is written so; these bytes are so many; the whole-file test answers so; the insert at a
--- position goes from a base to a base and is so; a record corrects a file of that length in a buffer with that outcome,
--- and leaves the buffer so; the data are that block by a format and level, and the block is the data undone
+-- a row of the table; `Holds` says what it claims
 pub data Case : Type 0 where
+  -- a file, and its bytes
   written : File → List ℕ → Case
+  -- bytes, and how many they are
   sized : List ℕ → ℕ → Case
+  -- bytes, and what the whole-file test answers
   tested : List ℕ → Answer → Case
+  -- a file's bytes and a position; the first base of the insert there, its last base, and its bases
   inserted : List ℕ → ℕ → ℕ → ℕ → List ℕ → Case
+  -- a buffer, the file's length in it and a record; what the correction answers, and the buffer afterwards
   corrected : List ℕ → ℕ → List ℕ → Outcome → List ℕ → Case
+  -- a format, a level and data; the block that encoding makes of them, which undone is the data
   filtered : ℕ → ℕ → List ℕ → List ℕ → Case
 
 abbrev pub Holds : Case → Type 0

@@ -1,4 +1,5 @@
--- Words of this crate's contracts: a part of a block's tests, and what undoing a filter asks. Assumes nothing: these are definitions.
+-- Words of this crate's contracts: a part of a block's tests, and what undoing a filter asks. Assumes nothing: these
+-- are definitions.
 use Prim.Native.Nat.{ℕ, _≤_}
 use mathlib.Core.Path.{_≡_}
 use mathlib.Core.Bool.{false}

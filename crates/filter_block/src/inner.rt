@@ -1,4 +1,5 @@
-// What a filter is asked and told here comes from a format byte, and a block is undone only after its tests.
+// For the crates above: each filter comes from a format byte, and a block is undone only after its tests, hence each
+// `requires`.
 ghost use mathlib.Core.Path.{_≡_};
 ghost use Prim.Native.Nat.{_*_, _<_, _≤_};
 ghost use lib.Dec.{ltb};

@@ -1,2 +1,3 @@
-// A filtered block: its format, the tests of its contents, and its filter undone. All of it is inner: the entry points are in `filters` and `filter_encode`.
+// A filtered block: its format, the tests of its contents, and its filter undone. All of it is inner: the entry points
+// are in `filters` and `filter_encode`.
 pub mod inner;

@@ -1,4 +1,5 @@
--- A pass along the units of a slice, in place: what is made, and what is to come, are the goal. One turn for every scan. Assumes nothing.
+-- A pass along the units of a slice, in place: what is made, and what is to come, are the goal. One turn for every
+-- scan. Assumes nothing.
 use mathlib.Core.Path.{_≡_, refl, sym, ap, _∙_}
 use mathlib.Core.List.{List, _++_, append-assoc, append-nil}
 use Prim.Native.Nat.{ℕ, zero, suc, _+_, _*_, _/_, _-_, _%_, _^_, _<_, _≤_}

@@ -1,4 +1,5 @@
-// No entry points: the callers have the width from the format, whole units and the room from their tests, hence each `requires`.
+// No entry points: the callers have the width from the format, whole units and the room from their tests, hence each
+// `requires`.
 ghost use mathlib.Core.Path.{_≡_};
 ghost use Prim.Native.Nat.{_+_, _%_, _≤_};
 ghost use lib.ListN.{length};
@@ -9,7 +10,7 @@ use buffers::inner::copy;
 use filter_units::inner::get_unit;
 use filter_units::inner::put_unit;
 
-// One level off: each unit becomes the sum of it and of those before.
+// Undoes one level: each unit becomes the sum of it and of those before.
 fn undo_pass(s: &mut [u8], w: usize)
     requires { ⌜ (IsWidth w) × (length (now s) % w ≡ 0) ⌝ }
     ensures { λ _. ⌜ now (s .exit) ≡ undeltaBytes w 1 (now (s .entry)) ⌝ }
@@ -26,7 +27,7 @@ fn undo_pass(s: &mut [u8], w: usize)
     }
 }
 
-// One level on: each unit less the one before.
+// Does one level: each unit less the one before.
 fn do_pass(s: &mut [u8], w: usize)
     requires { ⌜ (IsWidth w) × (length (now s) % w ≡ 0) ⌝ }
     ensures { λ _. ⌜ now (s .exit) ≡ deltaBytes w 1 (now (s .entry)) ⌝ }
@@ -43,7 +44,7 @@ fn do_pass(s: &mut [u8], w: usize)
     }
 }
 
-// `level` levels off.
+// Undoes `level` levels.
 fn undo_levels(s: &mut [u8], w: usize, level: usize)
     requires { ⌜ (IsWidth w) × (length (now s) % w ≡ 0) ⌝ }
     ensures { λ _. ⌜ now (s .exit) ≡ undeltaBytes w level (now (s .entry)) ⌝ }
@@ -55,7 +56,7 @@ fn undo_levels(s: &mut [u8], w: usize, level: usize)
     }
 }
 
-// `level` levels on.
+// Does `level` levels.
 fn do_levels(s: &mut [u8], w: usize, level: usize)
     requires { ⌜ (IsWidth w) × (length (now s) % w ≡ 0) ⌝ }
     ensures { λ _. ⌜ now (s .exit) ≡ deltaBytes w level (now (s .entry)) ⌝ }
@@ -67,7 +68,7 @@ fn do_levels(s: &mut [u8], w: usize, level: usize)
     }
 }
 
-// Puts the data at `at`, `level` levels off.
+// Puts the data at `at`, with `level` levels undone.
 pub fn put_undone(out: &mut [u8], at: usize, source: &[u8], w: usize, level: usize)
     requires { ⌜ (IsWidth w) × (length (now source) % w ≡ 0) × (at + length (now source) ≤ length (now out)) ⌝ }
     ensures { λ _. ⌜ now (out .exit) ≡ putAt at (undeltaBytes w level (now (source .entry))) (now (out .entry)) ⌝ }
@@ -78,7 +79,7 @@ pub fn put_undone(out: &mut [u8], at: usize, source: &[u8], w: usize, level: usi
     undo_levels(&mut out[at..end], w, level);
 }
 
-// Puts the data at `at`, `level` levels on.
+// Puts the data at `at`, with `level` levels done.
 pub fn put_delta(out: &mut [u8], at: usize, source: &[u8], w: usize, level: usize)
     requires { ⌜ (IsWidth w) × (length (now source) % w ≡ 0) × (at + length (now source) ≤ length (now out)) ⌝ }
     ensures { λ _. ⌜ now (out .exit) ≡ putAt at (deltaBytes w level (now (source .entry))) (now (out .entry)) ⌝ }

@@ -6,7 +6,8 @@ ghost use Rattle.octets.specs.Parts.{putAt};
 ghost use Rattle.filter_format.specs.Follow.{followed, unfollowed};
 use octets::wide;
 
-// The source undone, at the front: each byte after the first is follow[the byte before it in the data] less the stored one.
+// Puts the source undone at the front: each byte after the first is follow[the byte before it in the data] less the
+// stored one.
 pub fn put_unfollowed(out: &mut [u8], source: &[u8], follow: &[u8])
     requires { ⌜ (length (now follow) ≡ 256) × (length (now source) ≤ length (now out)) ⌝ }
     ensures { λ _. ⌜ now (out .exit) ≡ putAt 0 (unfollowed (now (follow .entry)) (now (source .entry))) (now (out .entry)) ⌝ }
@@ -26,7 +27,7 @@ pub fn put_unfollowed(out: &mut [u8], source: &[u8], follow: &[u8])
     }
 }
 
-// The source filtered, at `at`.
+// Puts the source filtered at `at`.
 pub fn put_followed(out: &mut [u8], at: usize, source: &[u8], follow: &[u8])
     requires { ⌜ (length (now follow) ≡ 256) × (at + length (now source) ≤ length (now out)) ⌝ }
     ensures { λ _. ⌜ now (out .exit) ≡ putAt at (followed (now (follow .entry)) (now (source .entry))) (now (out .entry)) ⌝ }

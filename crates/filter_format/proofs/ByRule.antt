@@ -36,7 +36,7 @@ scan-at out p [] i h = absurd (let a : ⊥ = omega arith in a)
 scan-at out p (x ∷ xs) zero h = refl
 scan-at out p (x ∷ xs) (suc i) h = scan-at out x xs i (omega arith)
 
--- 64, 65, 66, and SCF
+-- formats 64, 65, 66, and SCF samples: differences
 module _ (m : ℕ) (pos : 0 < m) where
   delta-differs : (xs : List ℕ) → Below m xs → Differences m xs (delta m xs)
   delta-differs xs y = record {
@@ -53,7 +53,7 @@ module _ (m : ℕ) (pos : 0 < m) where
   deltas-rounds zero xs y = refl
   deltas-rounds (suc level) xs y = (deltas m level xs, deltas-rounds level xs y, delta-differs (deltas m level xs) (below-deltas m pos level xs y))
 
--- 70, 71
+-- formats 70, 71: each unit in one byte where it is small
 unit-shortened : (w u : ℕ) → Shortened w u (narrowUnit w u)
 unfolding narrowUnit
 unit-shortened w u = go (leb u 127) refl (leb (least w) u) refl
@@ -72,7 +72,7 @@ unfolding narrow
 units-shortened w [] = refl
 units-shortened w (u ∷ us) = (narrowUnit w u, narrow w us, unit-shortened w u, units-shortened w us, refl)
 
--- 72
+-- format 72: differences from what the follow bytes predict
 data-predicted : (follow xs : List ℕ) → Bytes follow → Bytes xs → Predicted follow xs (followed follow xs)
 unfolding followed
 data-predicted follow [] z y = record { as-many = refl; first = refl; each = λ i h. absurd (let a : ⊥ = omega arith in a) }

@@ -1,4 +1,5 @@
--- "Undo after encode returns the data"; "Encode after undo returns the block for 64, 65, 66, 72 (same level and follow bytes)". Assumes nothing.
+-- "Undo after encode returns the data"; "Encode after undo returns the block for 64, 65, 66, 72 (same level and follow
+-- bytes)". Assumes nothing.
 use mathlib.Core.Path.{_≡_, refl, sym, ap, _∙_, subst}
 use mathlib.Core.Bool.{Bool, true, false, cond, not, _||_}
 use mathlib.Core.List.{List, [], _∷_, _++_}

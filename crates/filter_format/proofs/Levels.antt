@@ -1,4 +1,5 @@
--- Levels of the delta filter on data in units of w bytes: one pass, the loop over the levels, the way there and back. Assumes nothing.
+-- Levels of the delta filter on data in units of w bytes: one pass, the loop over the levels, and that doing and
+-- undoing levels are inverse to each other. Assumes nothing.
 use mathlib.Core.Path.{_≡_, refl, ap, _∙_}
 use mathlib.Core.List.{List}
 use Prim.Native.Nat.{ℕ, zero, suc, _*_, _/_, _%_, _<_}

@@ -1,4 +1,5 @@
--- The numbers that each call may answer with; and so "Every answer has a number (0 accepted)": 0 is acceptance's alone. Assumes nothing.
+-- The numbers that each call may answer with; and so "Every answer has a number (0 accepted)": 0 is acceptance's alone.
+-- Assumes nothing.
 use Prim.Native.Nat.{ℕ, zero, suc}
 use mathlib.Core.Path.{_≡_, refl}
 use mathlib.Core.Bool.{Bool, true, false, cond}

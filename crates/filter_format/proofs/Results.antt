@@ -1,4 +1,5 @@
--- What a call answers and leaves whose result is `tested`: a is what its test answered, `made` the bytes that it makes. Assumes nothing.
+-- What a call answers and leaves whose result is `tested`: a is what its test answered, `made` the bytes that it makes.
+-- Assumes nothing.
 use mathlib.Core.Path.{_≡_, refl, sym, _∙_}
 use mathlib.Core.List.{List, []}
 use Prim.Native.Nat.{ℕ}

@@ -1,4 +1,4 @@
--- The way there and back of a scan, once for every pair of step functions that undo each other, and its instances. Assumes nothing.
+-- Two scans undo each other, proved once for every pair of step functions that do, and its instances. Assumes nothing.
 use mathlib.Core.Path.{_≡_, refl, ap, _∙_}
 use mathlib.Core.List.{List, [], _∷_}
 use Prim.Native.Nat.{ℕ, zero, suc, _+_, _-_, _%_, _<_}

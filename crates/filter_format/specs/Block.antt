@@ -1,4 +1,5 @@
--- A block: its format, its header, its data, what undoing its filter gives, and its tests. Assumes nothing: these are definitions.
+-- A block: its format, its header, its data, what undoing its filter gives, and its tests. Assumes nothing: these are
+-- definitions.
 use Prim.Native.Nat.{ℕ, _≤_}
 use mathlib.Core.Bool.{Bool, true, false, cond, not, _&&_, _||_}
 use mathlib.Core.List.{List, []}
@@ -46,7 +47,8 @@ isFilter (Narrow w) = true
 isFilter Follow = true
 isFilter Other = false
 
--- where the data begin: behind the format byte; for 64 to 66 behind the level byte, "66: then two zeros"; for 72 behind "256 follow bytes"
+-- where the data begin: behind the format byte; for 64 to 66 behind the level byte, "66: then two zeros"; for 72 behind
+-- "256 follow bytes"
 unfoldable pub headerLength : Filter → ℕ
 headerLength Raw = 1
 headerLength (Delta w) = cond (eqb w 4) 4 2
@@ -96,7 +98,8 @@ badData (Narrow w) s = ltb 0 (lacking w 0 s)
 badData Follow s = false
 badData Other s = false
 
--- "40 header cut short; 42 level or zeros wrong; 43 data not whole units, or 128 with too few bytes after it; 26 a result above the room. Place 0"
+-- "40 header cut short; 42 level or zeros wrong; 43 data not whole units, or 128 with too few bytes after it; 26 a
+-- result above the room. Place 0"
 unfoldable pub contentsTest : Filter → ℕ → List ℕ → Answer
 contentsTest f room b =
     when (ltb (length b) (headerLength f)) 40 0

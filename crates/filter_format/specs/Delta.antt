@@ -1,4 +1,5 @@
--- Formats 64, 65 and 66, document 002's delta: "Level n means n times over: each unit less the one before, modulo the unit's range, the first less 0". Assumes nothing: these are definitions.
+-- Formats 64, 65 and 66, document 002's delta: "Level n means n times over: each unit less the one before, modulo the
+-- unit's range, the first less 0". Assumes nothing: these are definitions.
 use Prim.Native.Nat.{ℕ, zero, suc, _+_, _-_, _%_}
 use mathlib.Core.Path.{_≡_}
 use mathlib.Core.List.{List, [], _∷_}
@@ -10,7 +11,7 @@ unfoldable pub scan : (ℕ → ℕ → ℕ) → (ℕ → ℕ → ℕ) → ℕ �
 scan out next p [] = []
 scan out next p (x ∷ xs) = out p x ∷ scan out next (next p x) xs
 
--- "less the one before", modulo m; and the way back
+-- "less the one before", modulo m; and its inverse
 abbrev pub difference : ℕ → ℕ → ℕ → ℕ
 difference m p x = (x + (m - p)) % m
 
@@ -25,7 +26,7 @@ latest p x = x
 abbrev pub delta : ℕ → List ℕ → List ℕ
 delta m xs = scan (difference m) latest 0 xs
 
--- the way back: each unit and all before it together
+-- the inverse: the sum of each unit and all before it
 abbrev pub undelta : ℕ → List ℕ → List ℕ
 undelta m xs = scan (sum m) (sum m) 0 xs
 
@@ -34,7 +35,7 @@ unfoldable pub deltas : ℕ → ℕ → List ℕ → List ℕ
 deltas m zero xs = xs
 deltas m (suc level) xs = delta m (deltas m level xs)
 
--- the way back, as many times
+-- the inverse, as many times
 unfoldable pub undeltas : ℕ → ℕ → List ℕ → List ℕ
 undeltas m zero xs = xs
 undeltas m (suc level) xs = undeltas m level (undelta m xs)
@@ -46,7 +47,8 @@ deltaBytes w level s = unitBytes w (deltas (range w) level (unitsOf w s))
 unfoldable pub undeltaBytes : ℕ → ℕ → List ℕ → List ℕ
 undeltaBytes w level s = unitBytes w (undeltas (range w) level (unitsOf w s))
 
--- document 02 (vi), of each pass of the undo: "it turns the units of some data at one level into those of the same data at one level less, level 0 being the data"
+-- document 02 (vi), of each pass of the undo: "it turns the units of some data at one level into those of the same data
+-- at one level less, level 0 being the data"
 abbrev pub OneLevelLess : ℕ → List ℕ → List ℕ → Type 0
 OneLevelLess w before after =
     (level : ℕ) (xs : List ℕ) → Below (range w) xs → before ≡ unitBytes w (deltas (range w) (suc level) xs) → after ≡ unitBytes w (deltas (range w) level xs)

@@ -53,7 +53,8 @@ badUnits (Narrow w) s = notWhole w s
 badUnits Follow s = false
 badUnits Other s = false
 
--- "Encoding one layer refuses 41 (format not 64 to 66 or 70 to 72), 42 (level, or follow bytes not 256 for 72), 43, 26 in that order"
+-- "Encoding one layer refuses 41 (format not 64 to 66 or 70 to 72), 42 (level, or follow bytes not 256 for 72), 43, 26
+-- in that order"
 unfoldable pub encodeTest : ℕ → ℕ → ℕ → List ℕ → List ℕ → Answer
 encodeTest room format level follow s =
     when (not (isFilter (filterOf format))) 41 0
@@ -69,7 +70,8 @@ encode room format level follow s = tested (encodeTest room format level follow 
 abbrev pub outAfter : Result → List ℕ → List ℕ
 outAfter result out = putAt 0 (result .bytes) out
 
--- "Encode after undo returns the block for 64, 65, 66, 72 (same level and follow bytes); not for 70, 71": what it asks for a block b of that filter
+-- "Encode after undo returns the block for 64, 65, 66, 72 (same level and follow bytes); not for 70, 71": what it asks
+-- for a block b of that filter
 abbrev pub SameFor : Filter → List ℕ → ℕ → List ℕ → Type 0
 SameFor Raw b level follow = ⊥
 SameFor (Delta w) b level follow = level ≡ levelAt b

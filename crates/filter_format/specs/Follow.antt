@@ -1,4 +1,5 @@
--- Format 72: "first data byte as is, then follow[previous byte] less the byte, modulo 256". Assumes nothing: these are definitions.
+-- Format 72: "first data byte as is, then follow[previous byte] less the byte, modulo 256". Assumes nothing: these are
+-- definitions.
 use Prim.Native.Nat.{ℕ, _+_, _-_, _%_}
 use mathlib.Core.List.{List, [], _∷_}
 use lib.ListN.{getD}
@@ -13,7 +14,7 @@ unfoldable pub followed : List ℕ → List ℕ → List ℕ
 followed follow [] = []
 followed follow (x ∷ xs) = x ∷ scan (predicted follow) latest x xs
 
--- the way back: the previous byte is the data's, not the stored one
+-- the inverse: the previous byte is the data's, not the stored one
 unfoldable pub unfollowed : List ℕ → List ℕ → List ℕ
 unfollowed follow [] = []
 unfollowed follow (x ∷ xs) = x ∷ scan (predicted follow) (predicted follow) x xs

@@ -1,4 +1,5 @@
--- Formats 70 and 71: "signed units of 2, 4 bytes; -127 to 127 as one byte, else byte 128 and the unit whole". Assumes nothing: these are definitions.
+-- Formats 70 and 71: "signed units of 2, 4 bytes; -127 to 127 as one byte, else byte 128 and the unit whole". Assumes
+-- nothing: these are definitions.
 use Prim.Native.Nat.{ℕ, zero, suc, _+_, _-_, _%_}
 use mathlib.Core.Bool.{cond}
 use mathlib.Core.List.{List, [], _∷_, _++_}
@@ -23,7 +24,7 @@ narrow w (u ∷ us) = narrowUnit w u ++ narrow w us
 unfoldable pub extended : ℕ → ℕ → ℕ
 extended w c = cond (ltb c 128) c (range w - 256 + c)
 
--- the way back: the bytes of the units, where `due` bytes of a whole unit are still to come
+-- the inverse: the bytes of the units, where `due` bytes of a whole unit are still to come
 unfoldable pub widen : ℕ → ℕ → List ℕ → List ℕ
 widen w due [] = []
 widen w zero (c ∷ s) = cond (eqb c 128) [] (bytesOf w (extended w c)) ++ widen w (cond (eqb c 128) w 0) s

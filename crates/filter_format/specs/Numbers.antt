@@ -1,4 +1,5 @@
--- The numbers of document 01's list that each call on a filtered block may answer with, beside 0. Assumes nothing: these are definitions.
+-- The numbers of document 01's list that each call on a filtered block may answer with, beside 0. Assumes nothing:
+-- these are definitions.
 use Prim.Native.Nat.{ℕ}
 use mathlib.Core.List.{List, [], _∷_}
 

@@ -10,7 +10,8 @@ use Rattle.filter_format.specs.Units.{notWhole}
 use Rattle.filter_format.specs.Delta.{deltaBytes, undeltaBytes}
 use Rattle.filter_format.specs.Undo.{Result, tested}
 
--- "either way refuses 42 (precision), 43, 26 in that order, changing nothing, and else writes as many bytes as it reads"
+-- "either way refuses 42 (precision), 43, 26 in that order, changing nothing, and else writes as many bytes as it
+-- reads"
 unfoldable pub samplesTest : ℕ → ℕ → List ℕ → Answer
 samplesTest room precision s =
     when (not (eqb precision 1 || eqb precision 2)) 42 0

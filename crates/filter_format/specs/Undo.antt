@@ -11,7 +11,7 @@ use Rattle.answers.specs.Answer.{when, _then_, acceptedOr}
 use Rattle.filter_format.specs.declared.Filtered.{Filtered}
 use Rattle.filter_format.specs.Block.{filterAt, isRaw, isFilter, contentsTest, undone}
 
--- what a call comes to: its answer, and the bytes that it makes, none where it refuses
+-- the result of a call: its answer, and the bytes that it makes, none where it refuses
 pub record Result : Type 0 where
   pub answer : Answer
   pub bytes : List ℕ
@@ -31,7 +31,8 @@ tested answer bytes = acceptedOr answer (making bytes) (refusing answer)
 abbrev pub roomOf : List ℕ → List ℕ → ℕ
 roomOf first second = min (length first) (length second)
 
--- "Order per layer: 40 empty block; 41 other format; 44 a ninth filter;" then the tests of the contents. `left` filters may still be opened
+-- "Order per layer: 40 empty block; 41 other format; 44 a ninth filter;" then the tests of the contents. `left` filters
+-- may still be opened
 unfoldable pub blockTest : ℕ → ℕ → List ℕ → Answer
 blockTest left room b =
     when (eqb (length b) 0) 40 0
@@ -39,7 +40,8 @@ blockTest left room b =
     then when (isFilter (filterAt b) && eqb left 0) 44 0
     then contentsTest (filterAt b) room b
 
--- "Undoing a filter gives another block, until format 0. An opened layer hands its block to the choice of format, which opens the next layer"
+-- "Undoing a filter gives another block, until format 0. An opened layer hands its block to the choice of format, which
+-- opens the next layer"
 unfoldable pub undoFrom : ℕ → ℕ → List ℕ → Result
 undoFrom zero room b = tested (blockTest 0 room b) (undone (filterAt b) b)
 undoFrom (suc left) room b =
@@ -59,7 +61,8 @@ undo room b = undoFrom mostFilters room b
 abbrev pub filtered : Result → Filtered
 filtered result = record { answer = result .answer; made = length (result .bytes) }
 
--- what the two buffers hold afterwards: "On success the first buffer holds the data, then zeros; the other is zero. A refusal zeroes both"
+-- what the two buffers hold afterwards: "On success the first buffer holds the data, then zeros; the other is zero. A
+-- refusal zeroes both"
 abbrev pub firstAfter : Result → List ℕ → List ℕ
 firstAfter result first = filled (length first) (result .bytes)
 

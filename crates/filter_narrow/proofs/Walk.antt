@@ -1,4 +1,5 @@
--- The walk over units of formats 70 and 71, a unit a turn: the invariants of the count and of the loop that puts the units whole. Assumes nothing.
+-- The walk over units of formats 70 and 71, a unit a turn: the invariants of the count and of the loop that puts the
+-- units whole. Assumes nothing.
 use mathlib.Core.Path.{_≡_, refl, sym, ap, _∙_}
 use mathlib.Core.List.{List, _∷_, _++_}
 use Prim.Native.Nat.{ℕ, suc, _+_, _-_, _<_, _≤_}

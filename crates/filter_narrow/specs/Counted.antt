@@ -1,4 +1,5 @@
--- Words of this crate's contracts: what its functions answer of units of formats 70 and 71. Assumes nothing: these are definitions.
+-- Words of this crate's contracts: what its functions answer of units of formats 70 and 71. Assumes nothing: these are
+-- definitions.
 use Prim.Native.Nat.{ℕ, zero, suc}
 use mathlib.Core.Bool.{Bool, cond, _||_}
 use mathlib.Core.List.{List, [], _∷_}

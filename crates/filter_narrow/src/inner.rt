@@ -32,7 +32,7 @@ pub fn count_units(source: &[u8], w: usize) -> Counted
     Counted::Units(units)
 }
 
-// The unit of one byte at 32 bits: its low bytes are the unit at a smaller width.
+// The unit that one byte stands for, at 32 bits: its low bytes are the unit at a smaller width.
 fn extend(c: u8) -> u32
     ensures { λ r. ⌜ r ≡ extended 4 c ⌝ }
 {
@@ -43,7 +43,7 @@ fn extend(c: u8) -> u32
     }
 }
 
-// The units of the source, each whole, at the front; answers how many bytes they take.
+// Puts the units of the source, each whole, at the front; answers how many bytes they take.
 pub fn put_widened(out: &mut [u8], source: &[u8], w: usize) -> usize
     requires { ⌜ (IsWidth w) × (lacking w 0 (now source) ≡ 0) × (length (widen w 0 (now source)) ≤ length (now out)) ⌝ }
     ensures { λ r. ⌜ (r ≡ length (widen w 0 (now (source .entry)))) × (now (out .exit) ≡ putAt 0 (widen w 0 (now (source .entry))) (now (out .entry))) ⌝ }
@@ -111,7 +111,7 @@ pub fn narrowed_length(source: &[u8], w: usize) -> usize
     size
 }
 
-// One unit at `at`, in one byte where it fits; answers the place after it.
+// Puts one unit at `at`, in one byte where it fits; answers the place after it.
 fn put_narrow(out: &mut [u8], at: usize, w: usize, u: u32) -> usize
     requires { ⌜ (IsWidth w) × (at + length (narrowUnit w u) ≤ length (now out)) ⌝ }
     ensures { λ r. ⌜ (r ≡ at + length (narrowUnit w u)) × (now (out .exit) ≡ putAt at (narrowUnit w u) (now (out .entry))) ⌝ }
@@ -126,7 +126,7 @@ fn put_narrow(out: &mut [u8], at: usize, w: usize, u: u32) -> usize
     }
 }
 
-// The units of the source at `at`, each in one byte where it fits.
+// Puts the units of the source at `at`, each in one byte where it fits.
 pub fn put_narrowed(out: &mut [u8], at: usize, source: &[u8], w: usize)
     requires { ⌜ (IsWidth w) × (length (now source) % w ≡ 0) × (at + length (narrow w (unitsOf w (now source))) ≤ length (now out)) ⌝ }
     ensures { λ _. ⌜ now (out .exit) ≡ putAt at (narrow w (unitsOf w (now (source .entry)))) (now (out .entry)) ⌝ }

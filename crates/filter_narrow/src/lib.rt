@@ -1,4 +1,5 @@
-// Units of formats 70 and 71: counted, made whole, and narrowed to one byte where they fit it. All functions are inner: each says what it requires.
+// Units of formats 70 and 71: counted, made whole, and narrowed to one byte where they fit it. All functions are inner:
+// each says what it requires.
 pub mod inner;
 
 // What a count of units finds.

@@ -1,4 +1,4 @@
-// Both require a width that is one; the callers have it from the format.
+// Both require a width of 1, 2 or 4; the callers have it from the format.
 ghost use mathlib.Core.Path.{_≡_};
 ghost use Prim.Native.Nat.{_+_, _<_, _≤_};
 ghost use lib.ListN.{length};

@@ -1,4 +1,5 @@
--- A word of this crate's contracts, for two buffers that change places at each layer. Assumes nothing: these are definitions.
+-- A word of this crate's contracts, for two buffers that change places at each layer. Assumes nothing: these are
+-- definitions.
 use mathlib.Core.Bool.{Bool, true, false}
 use mathlib.Core.List.{List}
 use Prim.Native.Nat.{ℕ}

@@ -70,7 +70,7 @@ pub(crate) fn refuse(first: &mut [u8], second: &mut [u8], number: u8, place: usi
     }
 }
 
-// The n bytes of data behind the format byte of `here`, which is the caller's first buffer.
+// Moves the n bytes of data behind the format byte of `here`, which is the caller's first buffer, to its front.
 fn keep(here: &mut [u8], there: &mut [u8], n: usize) -> Filtered
     requires { ⌜ n < length (now here) ⌝ }
     ensures { λ r. ⌜ r ≡ filtered (making (part 1 n (now (here .entry)))) ⌝ }
@@ -86,7 +86,7 @@ fn keep(here: &mut [u8], there: &mut [u8], n: usize) -> Filtered
     }
 }
 
-// The same where `there` is the first.
+// Copies them to the front of `there`, where that is the caller's first buffer.
 fn hand_over(here: &mut [u8], there: &mut [u8], n: usize) -> Filtered
     requires { ⌜ (n < length (now here)) × (n ≤ length (now there)) ⌝ }
     ensures { λ r. ⌜ r ≡ filtered (making (part 1 n (now (here .entry)))) ⌝ }
@@ -102,8 +102,8 @@ fn hand_over(here: &mut [u8], there: &mut [u8], n: usize) -> Filtered
     }
 }
 
-// The block in the first `len` bytes of `here`, by its format. `is_first` says whether `here` is the caller's first
-// buffer.
+// Undoes the block in the first `len` bytes of `here`, by its format. `is_first` says whether `here` is the caller's
+// first buffer.
 pub(crate) fn choose(
     here: &mut [u8],
     there: &mut [u8],
@@ -132,7 +132,7 @@ pub(crate) fn choose(
     }
 }
 
-// The layer in the first `len` bytes of `here`, undone into `there`: its block is chosen for next.
+// Undoes the layer in the first `len` bytes of `here` into `there`, and then the block that this gives.
 fn layer(
     here: &mut [u8],
     there: &mut [u8],

@@ -78,7 +78,8 @@ pub extern "C" fn h_view_test(file: &[u8], view: &[u64], place: &mut u64) -> u64
     view_test_out(file, view, place)
 }
 
-// The state comes in and goes out by `at`, `passed` and `index_passed`; `place` is the refusal's, and the last four speak of the read.
+// The state comes in and goes out by `at`, `passed` and `index_passed`; `place` is the refusal's, and the last four
+// speak of the read.
 #[no_mangle]
 pub extern "C" fn h_step(
     file: &[u8],
@@ -122,7 +123,8 @@ pub extern "C" fn h_fresh(
     fresh_out(file, at, passed, index_passed)
 }
 
-// The bases go to the front of `out` if it has room for them all; if not it stays as it is. `made` is how many they are in either case.
+// The bases go to the front of `out` if it has room for them all; if not it stays as it is. `made` is how many they are
+// in either case.
 #[no_mangle]
 pub extern "C" fn h_insert(
     file: &[u8],

@@ -115,7 +115,8 @@ pub fn fresh_out(file: &[u8], at: &mut u64, passed: &mut u64, index_passed: &mut
     0
 }
 
-// The state comes in and goes out by `at`, `passed` and `index_passed`; `place` is the refusal's, and the last four speak of the read.
+// The state comes in and goes out by `at`, `passed` and `index_passed`; `place` is the refusal's, and the last four
+// speak of the read.
 pub fn step_out(
     file: &[u8],
     at: &mut u64,
@@ -245,7 +246,8 @@ pub fn view_test_out(file: &[u8], view: &[u64], place: &mut u64) -> u64
     number_of(answer)
 }
 
-// The bases go to the front of `out` if it has room for them all; if not it stays as it is. `made` is how many they are in either case.
+// The bases go to the front of `out` if it has room for them all; if not it stays as it is. `made` is how many they are
+// in either case.
 pub fn insert_out(
     file: &[u8],
     position: u64,

@@ -1,4 +1,5 @@
--- Encoding and undoing SCF samples as one call: undone where the first number is not 0. Assumes nothing: these are definitions.
+-- Encoding and undoing SCF samples as one call: undone where the first number is not 0. Assumes nothing: these are
+-- definitions.
 use Prim.Native.Nat.{ℕ}
 use mathlib.Core.Bool.{cond}
 use mathlib.Core.List.{List}

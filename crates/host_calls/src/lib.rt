@@ -1,4 +1,5 @@
-// The two calls that a C host makes, with what they answer copied out as numbers: `service` exports them, and `harness` does for the tests.
+// The two calls that a C host makes, with what they answer copied out as numbers: `service` exports them, and `harness`
+// does for the tests.
 ghost use mathlib.Core.Path.{_≡_};
 ghost use Rattle.answers.specs.Answer.{numberOf, placeOf};
 ghost use Rattle.sff_format.specs.FileTest.{fileTest};

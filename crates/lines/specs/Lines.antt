@@ -1,4 +1,5 @@
--- The lines that the programs print, document 01's words in quotation marks: of a file's header, of a read, of a refusal, of an input that is too long, of a list run's answer. Assumes nothing: these are definitions.
+-- The lines that the programs print, document 01's words in quotation marks: of a file's header, of a read, of a
+-- refusal, of an input that is too long, of a list run's answer. Assumes nothing: these are definitions.
 use Prim.Native.Nat.{ℕ}
 use mathlib.Core.List.{List, [], _∷_, _++_}
 use Rattle.text.specs.Writing.{orDash}

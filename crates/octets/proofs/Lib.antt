@@ -1,5 +1,6 @@
--- `Lists`: parts and what is put. `AllBytes`, `Digits`: bytes, and numbers over the width. `Stands`, `Inserts`: what stands at a place, both ways.
--- `Settled`: a file at the front of a buffer. `Moves`, `Worded`, `Scan`, `Same`: the loops' invariants.
+-- `Lists`: parts and what is put. `AllBytes`, `Digits`: bytes, and numbers over the width. `Stands`, `Inserts`: what
+-- stands at a place, both ways. `Settled`: a file at the front of a buffer. `Moves`, `Worded`, `Scan`, `Same`: the
+-- loops' invariants.
 pub mod Lists
 pub mod AllBytes
 pub mod Digits

@@ -37,7 +37,8 @@ padded xs = filled (up8 (length xs)) xs
 unfoldable pub settled : List ℕ → ℕ → List ℕ → List ℕ
 settled new m buffer = filled m new ++ drop m buffer
 
--- a buffer whose first `end` bytes are a file, with xs in the place of the file's n bytes from place `at` on: what follows them is moved, and what is freed is zero
+-- a buffer whose first `end` bytes are a file, with xs in the place of the file's n bytes from place `at` on: what
+-- follows them is moved, and what is freed is zero
 unfoldable pub spliced : ℕ → ℕ → ℕ → List ℕ → List ℕ → List ℕ
 spliced at n end xs buffer = putAt at (xs ++ (part (at + n) (end - (at + n)) buffer ++ replicate (n - length xs) 0)) buffer
 

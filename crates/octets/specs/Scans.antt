@@ -27,7 +27,8 @@ Every test xs = run test xs ≡ length xs
 abbrev pub fails : (ℕ → Bool) → List ℕ → Bool
 fails test xs = ltb (run test xs) (length xs)
 
--- the first place from `from` on, before `to`, whose byte fails the test, or `to`: "Within one test the lowest place is named"
+-- the first place from `from` on, before `to`, whose byte fails the test, or `to`: "Within one test the lowest place is
+-- named"
 unfoldable pub firstNot : (ℕ → Bool) → ℕ → ℕ → List ℕ → ℕ
 firstNot test from to l = from + run test (part from (to - from) l)
 

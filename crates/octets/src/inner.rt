@@ -73,8 +73,8 @@ pub fn same_part(s: &[u8], at: usize, t: &[u8], from: usize, n: usize) -> bool
     true
 }
 
-// The first place from `from` on, before `to`, whose byte fails the test, or `to`. The number of bytes is taken first: from the two places the compiler
-// would work it out anew.
+// The first place from `from` on, before `to`, whose byte fails the test, or `to`. The loop counts to the number of
+// bytes: over the two places the compiler would compute that number again.
 pub fn first_not(test: ByteTest, s: &[u8], from: usize, to: usize) -> usize
     requires { ⌜ (from ≤ to) × (to ≤ length (now s)) ⌝ }
     ensures { λ r. ⌜ (r ≡ firstNot (passes test) from to (now (s .entry))) × (r ≤ to) ⌝ }

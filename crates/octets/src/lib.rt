@@ -13,7 +13,7 @@ pub enum ByteTest {
     Zero,
 }
 
-// The byte x, with its bound.
+// The byte x as a number, whose promise says that it is below 256.
 pub fn wide(x: u8) -> usize
     ensures { λ r. ⌜ (r ≡ x) × (r < 256) ⌝ }
 {

@@ -1,4 +1,5 @@
-// Document 01's host: "A C service calls the whole-file test and the single correction on numbers and byte slices." `include/sffstore.h` declares them to C.
+// Document 01's host: "A C service calls the whole-file test and the single correction on numbers and byte slices."
+// `include/sffstore.h` declares them to C.
 ghost use mathlib.Core.Path.{_≡_};
 ghost use Rattle.answers.specs.Answer.{numberOf, placeOf};
 ghost use Rattle.sff_format.specs.FileTest.{fileTest};
@@ -15,8 +16,8 @@ pub extern "C" fn sffstore_test(file: &[u8], place: &mut u64) -> u64
     test_out(file, place)
 }
 
-// Corrects the file that fills the first `file_length` bytes of the buffer by one record. Answers the number of the first reason to refuse it, which leaves
-// the buffer as it was, or 0; `length_after` is the file's length afterwards.
+// Corrects the file that fills the first `file_length` bytes of the buffer by one record. Answers the number of the
+// first reason to refuse it, which leaves the buffer as it was, or 0; `length_after` is the file's length afterwards.
 #[no_mangle]
 pub extern "C" fn sffstore_correct(
     buffer: &mut [u8],

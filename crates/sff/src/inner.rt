@@ -21,7 +21,7 @@ pub fn index_due(header: Header, place: usize, passed: bool) -> bool
     !passed & (declared & (place == header.index_offset))
 }
 
-// 1, of an index at `place`.
+// An index at `place` that is cut short (1).
 pub fn pass_test(s: &[u8], header: Header, place: usize) -> Answer
     requires { ⌜ header ≡ headerOf (now s) ⌝ }
     requires { ⌜ Small header ⌝ }
@@ -34,7 +34,7 @@ pub fn pass_test(s: &[u8], header: Header, place: usize) -> Answer
     Answer::Accepted
 }
 
-// 13, 12
+// The end of the file: an index whose place was never met (13), bytes left over (12).
 pub fn end_test(s: &[u8], header: Header, place: usize, passed: bool) -> Answer
     requires { ⌜ header ≡ headerOf (now s) ⌝ }
     ensures { λ r. ⌜ r ≡ endTest (now (s .entry)) place passed ⌝ }

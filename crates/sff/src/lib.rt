@@ -21,7 +21,8 @@ use sff_header::inner::index_size;
 use sff_read::inner::read_end;
 use sff_read::inner::read_test;
 
-// What the boundaries ask from `from` on, with n reads that remain and no index that is still to be passed: one turn passes a read, or is the end.
+// What the boundaries ask from `from` on, with n reads that remain and no index that is still to be passed: one turn
+// passes a read, or is the end.
 fn reads_test(s: &[u8], header: Header, from: usize, n: usize) -> Answer
     requires { ⌜ headerTest (now s) ≡ Accepted ⌝ }
     requires { ⌜ header ≡ headerOf (now s) ⌝ }
@@ -45,8 +46,8 @@ fn reads_test(s: &[u8], header: Header, from: usize, n: usize) -> Answer
     }
 }
 
-// What the boundaries ask from the header's end on, up to the index. Past it the loop above goes on: with a loop for each, `read_test` stays a function of its
-// own, and the walk over a read's bases keeps all it needs in registers.
+// What the boundaries ask from the header's end on, up to the index. Past it the loop above goes on: with a loop for
+// each, `read_test` stays a function of its own, and the walk over a read's bases keeps all it needs in registers.
 fn sections_test(s: &[u8], header: Header) -> Answer
     requires { ⌜ headerTest (now s) ≡ Accepted ⌝ }
     requires { ⌜ header ≡ headerOf (now s) ⌝ }

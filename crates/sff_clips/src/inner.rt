@@ -28,7 +28,7 @@ fn right_limit(bases: usize) -> BasePosition
     BasePosition(bases)
 }
 
-// 9: the clips of the read at p.
+// The clips of the read at p, in file order: one above its limit (9).
 pub fn clip_test(
     p: usize,
     bases: usize,

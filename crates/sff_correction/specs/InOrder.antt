@@ -71,12 +71,12 @@ ownReasons room c f =
     ∷ []
 
 -- "Order, place 0 for the record's own: 14; 20 record malformed or not 96 bytes; the file's refusal", and then these.
--- 14 is, as for an append, "length stated above the buffer"
+-- The words of 14 are those of an append
 abbrev pub reasonsAgainst : List ℕ → ℕ → List ℕ → List Reason
 reasonsAgainst buffer len r =
-    -- 14
+    -- "14 length stated above the buffer"
     record { holds = length buffer < len; answer = Refused 14 0 }
-    -- 20
+    -- "20 record malformed or not 96 bytes"
     ∷ malformed r
     -- "the file's refusal"
     ∷ record { holds = IsFile (take len buffer) → ⊥; answer = fileTest (take len buffer) }

@@ -1,4 +1,4 @@
--- In document 01's order: a correction; a record, and how it lies; what it does to a file; the reasons to refuse it, as
+-- In document 01's order: a correction; a record, and its layout; what it does to a file; the reasons to refuse it, as
 -- tests and in words of the model; one correction; a list of them, and the same over the model of the file; the
 -- numbers.
 pub mod Correction

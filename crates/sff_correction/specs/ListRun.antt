@@ -27,8 +27,9 @@ pub record Run : Type 0 where
 abbrev pub ran : ℕ → Answer → ℕ → List ℕ → Run
 ran count answer len buffer = record { outcome = record { count = count; answer = answer; length = len }; buffer = buffer }
 
--- "Records run in turn, each on the buffer and length that the one before left .. The first refusal ends it; earlier ones stand. The answer has their count and the
--- number, place and length of the last record tried." m records are left, and the next is at position k
+-- "Records run in turn, each on the buffer and length that the one before left .. The first refusal ends it; earlier
+-- ones stand. The answer has their count and the number, place and length of the last record tried." m records are
+-- left, and the next is at position k
 unfoldable pub turns : ℕ → ℕ → List ℕ → ℕ → List ℕ → Run
 turns zero k buffer len l = ran k Accepted len buffer
 turns (suc m) k buffer len l =

@@ -1,4 +1,5 @@
--- How a correction lies in the bytes of a record, and back. Assumes nothing: these are definitions.
+-- The layout of a correction as a record, and the correction that a record says. Assumes nothing: these are
+-- definitions.
 use Prim.Native.Nat.{ℕ}
 use mathlib.Core.Bool.{cond}
 use mathlib.Core.List.{List, [], _∷_, _++_}

@@ -32,7 +32,7 @@ pub record Ready (buffer : List ℕ) (n : ℕ) (from : Start) : Type 0 where
   pub accepted : fileTest (take n buffer) ≡ Accepted
   pub start : StartIn (take n buffer) from
 
--- so it is where a record was carried out
+-- after a record that was carried out, the buffer is ready for the next
 abbrev pub Onward : List ℕ → Carried → Type 0
 Onward buffer (Out n i p) = Ready buffer n (knownAt i p)
 Onward buffer (Stopped n p) = Unit {0}

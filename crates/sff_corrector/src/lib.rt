@@ -50,7 +50,7 @@ fn find_from(s: &[u8], from: Start, position: usize) -> usize
     }
 }
 
-// 21 and what comes after it: a well-formed record on an accepted file.
+// A well-formed record on an accepted file: the position (21), and the reasons after it.
 fn carry_out(buffer: &mut [u8], len: usize, record: &[u8], from: Start) -> Carried
     requires { ⌜ Ready (now buffer) len from ⌝ }
     requires { ⌜ recordTest (now «record») ≡ Accepted ⌝ }
@@ -73,7 +73,7 @@ fn carry_out(buffer: &mut [u8], len: usize, record: &[u8], from: Start) -> Carri
     Carried::Out(length, position, place)
 }
 
-// A record on a file that was not tested yet: 14, 20, the file's refusal, and the rest.
+// A record on a file that was not tested yet: the length (14), the record (20), the file's refusal, and the rest.
 fn carry_first(buffer: &mut [u8], len: usize, record: &[u8]) -> Carried
     ensures { λ v. ⌜ outcomeOf len v ≡ correctOutcome (now (buffer .entry)) len (now («record» .entry)) ⌝ }
     ensures { λ v. ⌜ now (buffer .exit) ≡ correctBuffer (now (buffer .entry)) len (now («record» .entry)) ⌝ }

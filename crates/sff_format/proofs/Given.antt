@@ -18,7 +18,7 @@ use Rattle.sff_format.specs.Writing.{badCounts, givenTest, Lent}
 use Rattle.answers.proofs.Answers.{first-ok, second-ok, both-ok, when-ok, ok-when, under-ok, ok-under, own-ok, ok-own, or-left, or-right}
 use Rattle.sff_format.proofs.Bases.{walk-ok, calls-ok, ok-bases}
 
--- 30
+-- the counts, which 30 refuses where they differ
 pub counts-ok : (v F x n q : ℕ) → badCounts F v x n q ≡ false → (v ≡ F) × (x ≡ n) × (q ≡ n) × (n < 4294967296)
 unfolding badCounts
 counts-ok v F x n q e =

@@ -1,4 +1,5 @@
--- An accepted header is the layout of what it says, and the layout of a header that keeps the rules is accepted. Assumes nothing.
+-- An accepted header is the layout of what it says, and the layout of a header that keeps the rules is accepted.
+-- Assumes nothing.
 use Prim.Native.Nat.{ℕ, _+_, _-_, _≤_}
 use mathlib.Core.Path.{_≡_, refl, sym}
 use mathlib.Core.Bool.{false}

@@ -1,4 +1,5 @@
--- An index that is passed is the layout of what it says, and the layout of an index is passed. All that the laws know of `passTest`. Assumes nothing.
+-- An index that is passed is the layout of what it says, and the layout of an index is passed. All that the laws know
+-- of `passTest`. Assumes nothing.
 use Prim.Native.Nat.{ℕ, _+_, _-_, _≤_}
 use mathlib.Core.Path.{_≡_}
 use mathlib.Core.List.{List, append-nil}

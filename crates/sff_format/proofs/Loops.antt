@@ -1,4 +1,5 @@
--- The laws by which the code's loops go over the walk and the bases: x is the flow position that the increment at k leads to. Assumes nothing.
+-- The laws by which the code's loops go over the walk and the bases: x is the flow position that the increment at k
+-- leads to. Assumes nothing.
 use Prim.Native.Nat.{ℕ, suc, _+_, _≤_, _<_}
 use mathlib.Core.Path.{_≡_}
 use mathlib.Core.Bool.{true, false, _&&_}

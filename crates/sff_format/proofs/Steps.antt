@@ -1,4 +1,5 @@
--- Steps from a fresh state: the reads in order, each once, then 33; or the whole-file test's refusal at last. Assumes nothing.
+-- Steps from a fresh state: the reads in order, each once, then 33; or the whole-file test's refusal at last. Assumes
+-- nothing.
 use Prim.Native.Nat.{ℕ, zero, suc, _+_, _≤_, _<_}
 use mathlib.Core.Path.{_≡_, refl, sym, ap, _∙_}
 use mathlib.Core.Bool.{Bool, true, false, cond}

@@ -38,7 +38,8 @@ endTest b p passed =
     when (declared (indexOffset b) (indexLength b) && not passed) 13 8
     then when (ltb p (length b)) 12 p
 
--- "At each boundary: an index declared there and not yet passed is passed ..; else, if reads remain, a read is tested; else the end", with n reads that remain
+-- "At each boundary: an index declared there and not yet passed is passed ..; else, if reads remain, a read is tested;
+-- else the end", with n reads that remain
 unfoldable pub boundaryTest : List ℕ → ℕ → ℕ → Bool → Answer
 boundaryTest b zero p passed = indexTest b p passed then endTest b (pastIndex b p passed) (nowPassed b p passed)
 boundaryTest b (suc n) p passed =

@@ -11,7 +11,8 @@ use Rattle.answers.specs.declared.Answer.{Answer}
 use Rattle.answers.specs.Answer.{when, stopped, acceptedOr, _then_}
 use Rattle.sff_format.specs.Rules.{badIndex}
 
--- "index offset at 8 (8 bytes), index length at 16 (4), reads at 20 (4), header length at 24 (2), key length K at 26 (2), flows F at 28 (2)"
+-- "index offset at 8 (8 bytes), index length at 16 (4), reads at 20 (4), header length at 24 (2), key length K at 26
+-- (2), flows F at 28 (2)"
 abbrev pub indexOffset : List ℕ → ℕ
 indexOffset b = number 8 8 b
 
@@ -41,7 +42,7 @@ flowCharacters b = part 31 (flows b) b
 abbrev pub keyCharacters : List ℕ → List ℕ
 keyCharacters b = part (31 + flows b) (keyLength b) b
 
--- 2, 3, 4, 5, with the places of the table: "0 / 4 / 30" and 24
+-- magic (2), version (3), format code (4), header length (5), at the table's places: "0 / 4 / 30" and 24
 unfoldable pub fixedTest : List ℕ → Answer
 fixedTest b =
     when (not (eqb (number 4 0 b) 0x2E736666)) 2 0
@@ -49,7 +50,7 @@ fixedTest b =
     then when (not (eqb (number 1 30 b) 1)) 4 30
     then when (not (eqb (headerLength b) (up8 (charactersEnd b)))) 5 24
 
--- 6, 7, 8
+-- flow and key characters (6), padding (7), index fields (8)
 unfoldable pub charactersTest : List ℕ → Answer
 charactersTest b =
     stopped 6 (firstNot isFlowCharacter 31 (charactersEnd b) b) (charactersEnd b)

@@ -1,4 +1,5 @@
--- The numbers of document 01's list that each call on a file may answer with, beside 0. Assumes nothing: these are definitions.
+-- The numbers of document 01's list that each call on a file may answer with, beside 0. Assumes nothing: these are
+-- definitions.
 use Prim.Native.Nat.{ℕ}
 use mathlib.Core.List.{List, [], _∷_}
 
@@ -6,7 +7,8 @@ use mathlib.Core.List.{List, [], _∷_}
 abbrev pub headerNumbers : List ℕ
 headerNumbers = 1 ∷ 2 ∷ 3 ∷ 4 ∷ 5 ∷ 6 ∷ 7 ∷ 8 ∷ []
 
--- the file's: those of the header, of a read ("1 .., 5, 1, 6, 7, 9, 1 (data), 10, 11, 7") and of the end ("13, then 12")
+-- the file's: those of the header, of a read ("1 .., 5, 1, 6, 7, 9, 1 (data), 10, 11, 7") and of the end ("13, then
+-- 12")
 abbrev pub fileNumbers : List ℕ
 fileNumbers = 1 ∷ 2 ∷ 3 ∷ 4 ∷ 5 ∷ 6 ∷ 7 ∷ 8 ∷ 9 ∷ 10 ∷ 11 ∷ 12 ∷ 13 ∷ []
 

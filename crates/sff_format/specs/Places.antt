@@ -1,4 +1,5 @@
--- Where a read starts: by the sizes of what stands before it, and as a walk over the bytes finds it. Assumes nothing: these are definitions.
+-- Where a read starts: by the sizes of what stands before it, and as a walk over the bytes finds it. Assumes nothing:
+-- these are definitions.
 use Prim.Native.Nat.{ℕ, zero, suc, _+_}
 use mathlib.Core.Bool.{Bool, false, cond}
 use mathlib.Core.List.{List, [], _++_}
@@ -9,7 +10,7 @@ use Rattle.sff_format.specs.HeaderTest.{headerLength, flows}
 use Rattle.sff_format.specs.ReadTest.{readEnd}
 use Rattle.sff_format.specs.FileTest.{pastIndex, nowPassed}
 
--- the read that no position has
+-- stands for the read at a position where the file has none
 abbrev pub noRead : Read
 noRead = record {
   name = [];

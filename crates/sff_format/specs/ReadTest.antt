@@ -11,7 +11,8 @@ use Rattle.answers.specs.declared.Answer.{Answer}
 use Rattle.answers.specs.Answer.{when, stopped, shifted, _then_}
 use Rattle.sff_format.specs.Rules.{leftLimit, rightLimit, walkRun, callRun}
 
--- "its length (2), name length L (2), bases N (4), quality left, quality right, adapter left, adapter right (2 each, in that order)"
+-- "its length (2), name length L (2), bases N (4), quality left, quality right, adapter left, adapter right (2 each, in
+-- that order)"
 abbrev pub sectionLength : List ℕ → ℕ → ℕ
 sectionLength b p = number 2 p b
 
@@ -33,7 +34,8 @@ adapterLeft b p = number 2 (p + 12) b
 abbrev pub adapterRight : List ℕ → ℕ → ℕ
 adapterRight b p = number 2 (p + 14) b
 
--- 5, 1, 6, 7: a header section of stated length s with a name of L bytes
+-- a header section of stated length s with a name of L bytes: its length (5), cut short (1), a name byte (6), padding
+-- (7)
 unfoldable pub nameTest : List ℕ → ℕ → ℕ → ℕ → Answer
 nameTest b p s L =
     when (not (eqb s (up8 (16 + L)))) 5 p
@@ -41,7 +43,7 @@ nameTest b p s L =
     then stopped 6 (firstNot isNameByte (p + 16) (p + 16 + L) b) (p + 16 + L)
     then stopped 7 (firstNot isZero (p + 16 + L) (p + s) b) (p + s)
 
--- 9: the clips of a read of n bases, in file order
+-- the clips of a read of n bases, in file order: one above its limit (9)
 unfoldable pub clipTest : ℕ → ℕ → ℕ → ℕ → ℕ → ℕ → Answer
 clipTest p n quality-left quality-right adapter-left adapter-right =
     when (ltb (leftLimit n) quality-left) 9 (p + 8)
@@ -49,13 +51,14 @@ clipTest p n quality-left quality-right adapter-left adapter-right =
     then when (ltb (leftLimit n) adapter-left) 9 (p + 12)
     then when (ltb (rightLimit n) adapter-right) 9 (p + 14)
 
--- 10, 11: increments xs and the bases ys that follow them, places counted from the first increment. "The walk stops at the first base that breaks this"
+-- the walk (10) over increments xs, and the bases ys (11) that follow them, places counted from the first increment.
+-- "The walk stops at the first base that breaks this"
 unfoldable pub basesTest : List ℕ → List ℕ → List ℕ → Answer
 basesTest characters xs ys =
     stopped 10 (walkRun (length characters) 0 xs) (length xs)
     then stopped 11 (length xs + callRun characters 0 xs ys) (length xs + length ys)
 
--- 1, 10, 11, 7: a data section at place d, of n bases
+-- a data section at place d, of n bases: cut short (1), the walk (10), a base (11), padding (7)
 unfoldable pub dataTest : List ℕ → List ℕ → ℕ → ℕ → Answer
 dataTest characters b d n =
     let F = length characters in

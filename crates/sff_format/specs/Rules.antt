@@ -1,4 +1,5 @@
--- The rules of document 01, "The file", each under a name of its own: the tests and `Valid` cite them. Assumes nothing: these are definitions.
+-- The rules of document 01, "The file", each under a name of its own: the tests and `Valid` cite them. Assumes nothing:
+-- these are definitions.
 use Prim.Native.Nat.{ℕ, _+_, _-_, _%_}
 use mathlib.Core.Bool.{Bool, not, _&&_, _||_}
 use mathlib.Core.List.{List, [], _∷_}
@@ -14,7 +15,7 @@ declared offset len = not (eqb offset 0 && eqb len 0)
 unfoldable pub badIndexLength : ℕ → Bool
 badIndexLength len = ltb len 8 || not (eqb (len % 8) 0)
 
--- 8: "just one index field is 0, or index length under 8 or not a multiple of 8"
+-- what 8 refuses: "just one index field is 0, or index length under 8 or not a multiple of 8"
 unfoldable pub badIndex : ℕ → ℕ → Bool
 badIndex offset len = declared offset len && (eqb offset 0 || badIndexLength len)
 
@@ -33,7 +34,8 @@ rightLimit n = n
 unfoldable pub isFlow : ℕ → ℕ → Bool
 isFlow F x = leb 1 x && leb x F
 
--- "Index bytes are increments. The running sum after each base is its flow position": after flow position f, how many of them keep the rule
+-- "Index bytes are increments. The running sum after each base is its flow position": after flow position f, how many
+-- of them keep the rule
 unfoldable pub walkRun : ℕ → ℕ → List ℕ → ℕ
 walkRun F f [] = 0
 walkRun F f (x ∷ xs) = oneMore (isFlow F (f + x)) (walkRun F (f + x) xs)

@@ -35,7 +35,8 @@ boundary b s = pastIndex b (s .place) (s .passed-index)
 abbrev pub indexPassed : List ℕ → State → Bool
 indexPassed b s = nowPassed b (s .place) (s .passed-index)
 
--- past any index: a read; or "with no read left it answers 13, 12 or else 33", whose place is "the state's, past an index"
+-- past any index: a read; or "with no read left it answers 13, 12 or else 33", whose place is "the state's, past an
+-- index"
 unfoldable pub readOrNone : List ℕ → ℕ → ℕ → Bool → Answer
 readOrNone b p n passed =
     cond (ltb n (readCount b))
@@ -72,7 +73,7 @@ stepAnswer (stop n p s) = Refused n p
 unfoldable pub step : List ℕ → State → Step
 step b s = concluded (stepTest b s) (viewAt (flows b) b (boundary b s)) (moved b s) s
 
--- what a state that steps on and on is refused with, within k steps
+-- the refusal that ends the steps from a state on, if one comes within k steps
 unfoldable pub onStop : (State → Answer) → Step → Answer
 onStop f (found view next) = f next
 onStop f (stop n p s) = Refused n p
@@ -82,7 +83,7 @@ unfolding onStop
 lastAnswer b zero s = Accepted
 lastAnswer b (suc k) s = onStop (lastAnswer b k) (step b s)
 
--- what it says of the reads that it finds within k steps
+-- what the steps from a state on say of the reads that they find, within k steps
 unfoldable pub onFound : (State → List ReadView) → Step → List ReadView
 onFound f (found view next) = view ∷ f next
 onFound f (stop n p s) = []

@@ -1,4 +1,5 @@
--- "it keeps the SFF rules as document 01 narrows them": the rules over the model, and that each number fits its field. Assumes nothing: these are definitions.
+-- "it keeps the SFF rules as document 01 narrows them": the rules over the model, and that each number fits its field.
+-- Assumes nothing: these are definitions.
 use Prim.Native.Nat.{ℕ, _+_, _^_, _≤_, _<_}
 use mathlib.Core.Bool.{true, false}
 use mathlib.Core.Path.{_≡_}

@@ -58,12 +58,13 @@ readOf name clips values increments bases qualities = record {
   qualities = qualities;
 }
 
--- 30: "counts differ from F or from each other, or N above 4,294,967,295"
+-- "30 counts differ from F or from each other, or N above 4,294,967,295"
 unfoldable pub badCounts : ℕ → ℕ → ℕ → ℕ → ℕ → Bool
 badCounts F values increments bases qualities =
     (not (eqb values F) || not (eqb increments bases)) || (not (eqb qualities bases) || ltb 4294967295 bases)
 
--- 30, 5, 6, 9, 10, 11: a read for a file with these flow characters
+-- a read for a file with these flow characters: counts (30), name length (5), name byte (6), clips (9), walk (10), base
+-- (11)
 unfoldable pub givenTest : List ℕ → Read → Answer
 givenTest characters r =
     when (badCounts (length characters) (length (r .values)) (length (r .increments)) (length (r .bases)) (length (r .qualities))) 30 0
@@ -79,8 +80,9 @@ openTest b =
     then when (declared (indexOffset b) (indexLength b)) 25 0
     then when (eqb (readCount b) 4294967295) 31 0
 
--- "Appending takes a buffer, the file's length in it and one read. Order: 14 length stated above the buffer; the file's own refusal; 25 an index is present;
--- 31 reads already 4,294,967,295; 30 ..; 5 ..; 6; 9; 10; 11; 26 new length above the buffer"
+-- "Appending takes a buffer, the file's length in it and one read. Order: 14 length stated above the buffer; the file's
+-- own refusal; 25 an index is present; 31 reads already 4,294,967,295; 30 ..; 5 ..; 6; 9; 10; 11; 26 new length above
+-- the buffer"
 unfoldable pub appendTest : List ℕ → ℕ → Read → Answer
 appendTest buffer len r =
     let b = take len buffer in

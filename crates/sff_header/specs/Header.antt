@@ -4,7 +4,8 @@ use mathlib.Core.List.{List}
 use Rattle.sff_format.specs.HeaderTest.{indexOffset, indexLength, readCount, headerLength, keyLength, flows}
 use Rattle.sff_header.specs.declared.Header.{Header}
 
--- "index offset at 8 (8 bytes), index length at 16 (4), reads at 20 (4), header length at 24 (2), key length K at 26 (2), flows F at 28 (2)"
+-- "index offset at 8 (8 bytes), index length at 16 (4), reads at 20 (4), header length at 24 (2), key length K at 26
+-- (2), flows F at 28 (2)"
 unfoldable pub headerOf : List ℕ → Header
 headerOf b = record {
   «index_offset» = indexOffset b;
@@ -15,7 +16,7 @@ headerOf b = record {
   flows = flows b;
 }
 
--- what the fields' widths allow, beside the index offset's, which a number of the code's has anyway
+-- each field is below the limit of its width; the index offset has 64 bits, as every number of the code
 pub record Small (h : Header) : Type 0 where
   pub index-length-small : h .«index_length» < 4294967296
   pub reads-small : h .reads < 4294967296

@@ -1,4 +1,5 @@
-// For this crate and those above it, which have seen that the file has the header's 31 bytes: so `header_fields` may ask for them. And what an index may be.
+// The header's fields, for this crate and those above it, which have seen that the file has the header's 31 bytes: so
+// `header_fields` may ask for them. And what the two index fields say.
 ghost use mathlib.Core.Path.{_≡_};
 ghost use Prim.Native.Nat.{_≤_};
 ghost use lib.ListN.{length};

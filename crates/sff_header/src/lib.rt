@@ -1,4 +1,5 @@
-// The header's tests, its flow and key characters, and what its two index fields mean. What lengths an index may have and the room it takes is known to `bad_index_length` and `index_size` alone.
+// The header's tests, its flow and key characters, and what its two index fields mean. `bad_index_length` alone decides
+// which lengths an index may have, and `index_size` alone the room that it takes.
 ghost use mathlib.Core.Path.{_≡_};
 ghost use Prim.Native.Nat.{_+_, _≤_};
 ghost use lib.ListN.{length};
@@ -33,7 +34,7 @@ fn bad_index_length(index_length: usize) -> bool
     (index_length < 8) | (index_length % 8 != 0)
 }
 
-// The test 8.
+// The index fields: just one of them 0, or a length that no index may have (8).
 fn bad_index(offset: usize, index_length: usize) -> bool
     ensures { λ r. ⌜ r ≡ badIndex offset «index_length» ⌝ }
 {
@@ -48,7 +49,8 @@ fn characters_end(header: Header) -> usize
     31 + header.flows + header.key_length
 }
 
-// The tests 2, 3, 4 and 5.
+// The fields that are the same in every file, and the header length: magic (2), version (3), format code (4), length
+// (5).
 fn fixed_test(s: &[u8], header: Header) -> Answer
     requires { ⌜ 31 ≤ length (now s) ⌝ }
     requires { ⌜ header ≡ headerOf (now s) ⌝ }
@@ -70,7 +72,7 @@ fn fixed_test(s: &[u8], header: Header) -> Answer
     Answer::Accepted
 }
 
-// The tests 6, 7 and 8.
+// Behind the fields, and the index: flow and key characters (6), padding (7), index fields (8).
 fn characters_test(s: &[u8], header: Header) -> Answer
     requires { ⌜ header ≡ headerOf (now s) ⌝ }
     requires { ⌜ Small header ⌝ }
@@ -94,7 +96,8 @@ fn characters_test(s: &[u8], header: Header) -> Answer
     Answer::Accepted
 }
 
-// All of the header's tests, in their order, on any bytes: 1, 2, 3, 4, 5, 1, 6, 7, 8.
+// All of the header's tests, in their order, on any bytes: under 31 bytes (1), the fixed fields and the length (2, 3,
+// 4, 5), under its own length (1), characters, padding and index (6, 7, 8).
 pub fn header_test(s: &[u8]) -> Answer
     ensures { λ r. ⌜ r ≡ headerTest (now (s .entry)) ⌝ }
 {

@@ -1,4 +1,5 @@
-// The insert of a read by its position. Where a call is refused, `sff_find::position_test` on the same inputs gives the number.
+// The insert of a read by its position. Where a call is refused, `sff_find::position_test` on the same inputs gives the
+// number.
 ghost use mathlib.Core.Path.{_≡_};
 ghost use Rattle.sff_format.specs.Position.{fileInsert, fileFirst, fileLast};
 use answers::Answer;

@@ -41,7 +41,7 @@ fn read_fields(s: &[u8], p: usize) -> ReadFields
     }
 }
 
-// 5, 1, 6, 7
+// A header section: its length field wrong (5), cut short (1), a name byte (6), its padding (7).
 fn name_test(s: &[u8], p: usize, section: usize, name_length: usize) -> Answer
     requires { ⌜ (p + 16 ≤ length (now s)) × (section < 65536) × («name_length» < 65536) ⌝ }
     ensures { λ r. ⌜ r ≡ nameTest (now (s .entry)) p section «name_length» ⌝ }
@@ -65,7 +65,7 @@ fn name_test(s: &[u8], p: usize, section: usize, name_length: usize) -> Answer
     Answer::Accepted
 }
 
-// 10, 11: the increments at `at` and the bases after them.
+// The increments at `at` and the bases after them: the flow walk (10), a base (11).
 fn called_test(s: &[u8], at: usize, bases: usize, flows: usize) -> Answer
     requires { ⌜ (at + bases + bases ≤ length (now s)) × (bases < 4294967296) × (flows < 65536) × (31 + flows ≤ length (now s)) ⌝ }
     ensures { λ r. ⌜ r ≡ shifted at (basesTest (part 31 flows (now (s .entry))) (part at bases (now (s .entry))) (part (at + bases) bases (now (s .entry)))) ⌝ }
@@ -84,7 +84,7 @@ fn called_test(s: &[u8], at: usize, bases: usize, flows: usize) -> Answer
     Answer::Refused(number, at + place)
 }
 
-// 1, 10, 11, 7
+// A data section: cut short (1), the flow walk (10), a base (11), its padding (7).
 fn data_test(s: &[u8], d: usize, bases: usize, flows: usize) -> Answer
     requires { ⌜ (d ≤ length (now s)) × (bases < 4294967296) × (flows < 65536) × (31 + flows ≤ length (now s)) ⌝ }
     ensures { λ r. ⌜ r ≡ dataTest (part 31 flows (now (s .entry))) (now (s .entry)) d bases ⌝ }
@@ -105,7 +105,8 @@ fn data_test(s: &[u8], d: usize, bases: usize, flows: usize) -> Answer
     Answer::Accepted
 }
 
-// The tests of the read at p, in document 01's order: 1, 5, 1, 6, 7, 9, 1, 10, 11, 7.
+// The tests of the read at p, in document 01's order: cut short before its fields end (1), the header section (5, 1, 6,
+// 7), the clips (9), the data section (1, 10, 11, 7).
 pub fn read_test(s: &[u8], p: usize, flows: usize) -> Answer
     requires { ⌜ (p ≤ length (now s)) × (flows < 65536) × (31 + flows ≤ length (now s)) ⌝ }
     ensures { λ r. ⌜ r ≡ readTest (part 31 flows (now (s .entry))) (now (s .entry)) p ⌝ }
@@ -118,7 +119,7 @@ pub fn read_test(s: &[u8], p: usize, flows: usize) -> Answer
     let Answer::Accepted = named else {
         return named;
     };
-    // Not before the name: they would wait on the stack while it is scanned.
+    // Read after the name's test: read before it, they would be kept on the stack during the scan of the name.
     let fields = read_fields(s, p);
     let bases = fields.bases;
     let clipped = clip_test(
@@ -143,7 +144,7 @@ pub fn read_end(s: &[u8], p: usize, flows: usize) -> usize
     p + get16(s, p) + up8(2 * flows + 3 * get32(s, p + 4))
 }
 
-// What the read at p says, as far as its fields do.
+// What the fields of the read at p say of it.
 pub fn read_view(s: &[u8], p: usize, flows: usize) -> ReadView
     requires { ⌜ (p + 16 ≤ length (now s)) × (flows < 65536) ⌝ }
     ensures { λ r. ⌜ r ≡ viewAt flows (now (s .entry)) p ⌝ }

@@ -22,7 +22,7 @@ use sff_header::inner::header_fields;
 use sff_read::inner::read_test;
 use sff_read::inner::read_view;
 
-// A byte place, the reads passed, and whether the index is passed. Any values may be put in.
+// A byte place, the reads passed, and whether the index is passed. A caller may put in any values.
 pub struct Reader {
     pub place: usize,
     pub passed_reads: usize,
@@ -35,7 +35,7 @@ pub enum Step {
     Stopped(u8, usize, Reader),
 }
 
-// Past an index: a read, or with none left 13, 12 or else 33.
+// Past an index: the read's tests; with no read left those of the file's end (13, 12), or else 33.
 fn read_or_none(s: &[u8], header: Header, place: usize, reads: usize, passed: bool) -> Answer
     requires { ⌜ headerTest (now s) ≡ Accepted ⌝ }
     requires { ⌜ header ≡ headerOf (now s) ⌝ }
@@ -53,7 +53,7 @@ fn read_or_none(s: &[u8], header: Header, place: usize, reads: usize, passed: bo
     Answer::Refused(33, place)
 }
 
-// 1, of an index that is due.
+// An index that is due and cut short (1).
 fn index_test(s: &[u8], header: Header, place: usize, passed: bool) -> Answer
     requires { ⌜ header ≡ headerOf (now s) ⌝ }
     requires { ⌜ Small header ⌝ }

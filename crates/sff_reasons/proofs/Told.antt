@@ -94,12 +94,12 @@ module _ {b r : List ℕ} {x : Fields} (s : Found b r x) where
   found-lengths = (old-inside x r (s .fields-of) (s .formed), new-inside x r (s .fields-of) (s .formed))
 
   module _ (room : ℕ) where
-    -- 21
+    -- the position (21)
     pub read-there : positionAbove room (asked x r) (parse b) ≡ false
     unfolding positionAbove
     read-there = ap not has-target
 
-    -- 25
+    -- an index (25): clips may be changed beside one
     pub clips-pass : x .kind ≡ 1 → false ≡ indexPresent room (asked x r) (parse b)
     unfolding indexPresent
     clips-pass k = rw (clips-asked x r (s .fields-of) k)
@@ -108,7 +108,7 @@ module _ {b r : List ℕ} {x : Fields} (s : Found b r x) where
     unfolding indexPresent parse
     index-told k e = rw (not-clips (λ y. isClips y ≡ false) k refl refl, index-length b (index-passed b (s .bytes) (s .accepted))) e
 
-    -- 24
+    -- another read's name (24): only a rename can take one
     pub none-borne : (x .kind ≡ 2 → ⊥) → false ≡ nameBorne room (asked x r) (parse b)
     unfolding nameBorne takesName
     none-borne k = rw (has-target, not-rename (λ y. takesName y (others (asked x r) (parse b)) ≡ false) k refl refl)
@@ -117,7 +117,7 @@ module _ {b r : List ℕ} {x : Fields} (s : Found b r x) where
     unfolding nameBorne takesName
     borne-told k e = rw (has-target, rename-asked x r (s .fields-of) k) e
 
-    -- 26: only a longer name can lack room
+    -- room (26): only a longer name can lack it
     pub room-kept : length b ≤ room → (x .kind ≡ 2 → ⊥) → false ≡ noRoom room (asked x r) (parse b)
     unfolding noRoom
     room-kept h k =
@@ -156,12 +156,12 @@ module _ {b r : List ℕ} {x : Fields} (s : Found b r x) where
         rw read-is (length-part (p + sectionLength b p + 2 * flows b + baseCount b p) (baseCount b p) b (omega arith))
 
     module _ (room : ℕ) where
-      -- 22
+      -- the read's name (22)
       pub name-told : {t : Bool} → t ≡ same (oldName r) (part (p + 16) (nameLength b p) b) → not t ≡ otherName room (asked x r) (parse b)
       unfolding otherName
       name-told e = rw (has-target, name-is, e)
 
-      -- 23
+      -- clips above the bases (23): only kind 1 gives clips
       pub none-above : (x .kind ≡ 1 → ⊥) → false ≡ clipAbove room (asked x r) (parse b)
       unfolding clipAbove clipsAbove
       none-above k = rw (has-target, not-clips (λ y. clipsAbove (length (target (asked x r) (parse b) .bases)) y ≡ false) k refl refl)
@@ -180,7 +180,7 @@ module _ {b r : List ℕ} {x : Fields} (s : Found b r x) where
         unfolding acceptedOr
         all-within f = sym (clips-told ∙ rw f)
 
-      -- 26, by the two header sections
+      -- room (26), by the lengths of the two header sections, the old and the new
       pub room-told : x .kind ≡ 2 → length b ≤ room → {k u : ℕ} → k ≡ sectionLength b p → u ≡ up8 (16 + x .«new_length») → ltb (room - length b + k) u ≡ noRoom room (asked x r) (parse b)
       unfolding noRoom
       room-told k h e f =

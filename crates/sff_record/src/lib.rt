@@ -66,7 +66,7 @@ fn new_name_test(record: &[u8]) -> Answer
     unused_test(record, 56, 40)
 }
 
-// The test of a correction record: 20.
+// The whole test of a correction record.
 pub fn record_test(record: &[u8]) -> Answer
     ensures { λ a. ⌜ a ≡ recordTest (now («record» .entry)) ⌝ }
 {

@@ -1,4 +1,5 @@
--- The sections that are written, by the lists and the numbers that the code is given. Assumes nothing: these are definitions.
+-- The sections that are written, by the lists and the numbers that the code is given. Assumes nothing: these are
+-- definitions.
 use Prim.Native.Nat.{ℕ, _+_}
 use mathlib.Core.List.{List, [], _∷_, _++_}
 use lib.ListN.{length}
@@ -22,7 +23,8 @@ headerSection name bases clips = padded (fields (sectionFields (length name) bas
 unfoldable pub dataSection : List ℕ → List ℕ → List ℕ → List ℕ → List ℕ
 dataSection values increments bases qualities = padded (words values ++ increments ++ bases ++ qualities)
 
--- "magic at 0 (2E 73 66 66), version at 4 (0 0 0 1), index offset at 8 (8 bytes), index length at 16 (4), reads at 20 (4)", of a file with "zero reads and no index"
+-- "magic at 0 (2E 73 66 66), version at 4 (0 0 0 1), index offset at 8 (8 bytes), index length at 16 (4), reads at 20
+-- (4)", of a file with "zero reads and no index"
 unfoldable pub startFields : List (ℕ × ℕ)
 startFields = (4, 0x2E736666) ∷ (4, 1) ∷ (8, 0) ∷ (4, 0) ∷ (4, 0) ∷ []
 

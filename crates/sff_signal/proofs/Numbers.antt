@@ -1,4 +1,5 @@
--- What the numbers of a summary are: the largest and the smallest are values and bound every value; each whole number is exactly a float. Assumes nothing.
+-- What the numbers of a summary are: the largest and the smallest are values and bound every value; each whole number
+-- is exactly a float. Assumes nothing.
 use Prim.Native.Nat.{ℕ, zero, suc, _+_, _*_, _≤_, _<_, min, max}
 use mathlib.Core.Path.{_≡_, refl, ap}
 use mathlib.Core.Bool.{Bool, true, false}

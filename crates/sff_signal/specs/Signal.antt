@@ -31,7 +31,8 @@ minOf (x ∷ y ∷ ys) = min x (minOf (y ∷ ys))
 abbrev pub over : ℕ → ℕ → Float
 over n d = div binary64 (ofInt binary64 (pos n)) (ofInt binary64 (pos d))
 
--- "Strongest and weakest are the largest and smallest stored value over 100.0; the mean is the exact sum of stored values over the exact 100F"
+-- "Strongest and weakest are the largest and smallest stored value over 100.0; the mean is the exact sum of stored
+-- values over the exact 100F"
 unfoldable pub summaryOf : List ℕ → Summary
 summaryOf xs = record {
   strongest = over (maxOf xs) 100;

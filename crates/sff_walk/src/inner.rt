@@ -1,4 +1,5 @@
-// The flow walk and the bases, for the crates above: the lists are as long as each other and no longer than a read's, hence each `requires`.
+// The flow walk and the bases, for the crates above: the lists are as long as each other and no longer than a read's,
+// hence each `requires`.
 ghost use mathlib.Core.Path.{_≡_};
 ghost use Prim.Native.Nat.{_+_, _-_, _≤_, _<_};
 ghost use lib.ListN.{length, drop};
@@ -8,7 +9,8 @@ use crate::BasePosition;
 use crate::FlowPosition;
 use answers::Answer;
 
-// The place among the increments of the first one, from base position `base` on, that breaks the walk after flow position `flow`; or their end.
+// The place among the increments of the first one, from base position `base` on, that breaks the walk after flow
+// position `flow`; or their end.
 fn walk_stop(
     increments: &[u8],
     mut base: BasePosition,
@@ -41,9 +43,9 @@ fn is_call(characters: &[u8], flow: FlowPosition, base: u8) -> bool
     (base == characters[flow.0 - 1]) | (base == b'N')
 }
 
-// 10, 11: the walk over the increments and, in the same pass, the bases, to the place of the first base that breaks the
-// walk or is not its flow's character, or the end. All of 10 comes before any 11, so the rest of the walk goes before a
-// wrong base. Places count from the first increment, as though the bases came after them.
+// The flow walk (10) and, in the same pass, the bases (11), to the place of the first base that breaks the walk or is
+// not its flow's character, or the end. Any 10 comes before any 11, so behind a wrong base the rest of the walk is
+// tested first. Places count from the first increment, as though the bases came after them.
 pub fn bases_test(characters: &[u8], increments: &[u8], bases: &[u8]) -> Answer
     requires { ⌜ (length (now characters) < 65536) × (length (now increments) ≡ length (now bases)) × (length (now bases) < 4294967296) ⌝ }
     ensures { λ r. ⌜ r ≡ basesTest (now (characters .entry)) (now (increments .entry)) (now (bases .entry)) ⌝ }

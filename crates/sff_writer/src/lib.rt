@@ -1,4 +1,5 @@
-// New files, and reads appended to a file, in a lent buffer. All reasons to refuse are judged before the first byte is written.
+// New files, and reads appended to a file, in a lent buffer. All reasons to refuse are judged before the first byte is
+// written.
 ghost use mathlib.Core.Path.{_≡_};
 ghost use Prim.Native.Nat.{_<_};
 ghost use lib.ListN.{length};
@@ -33,7 +34,7 @@ fn own(answer: Answer) -> Answer
     }
 }
 
-// 30
+// The counts: they differ from F or from each other, or there are more bases than a read can count (30).
 fn bad_counts(
     flows: usize,
     values: &[u16],
@@ -48,7 +49,7 @@ fn bad_counts(
         | ((qualities.len() != n) | (n > 4294967295))
 }
 
-// 9
+// The clips: one above its limit (9), at place 0 as they are the caller's.
 fn clips_test(clips: Clips, bases: usize) -> Answer
     requires { ⌜ bases < 4294967296 ⌝ }
     ensures { λ r. ⌜ r ≡ own (clipTest 0 bases (clips .«quality_left») (clips .«quality_right») (clips .«adapter_left») (clips .«adapter_right»)) ⌝ }
@@ -63,7 +64,8 @@ fn clips_test(clips: Clips, bases: usize) -> Answer
     ))
 }
 
-// 30, 5, 6, 9, 10, 11: a read for a file with these flow characters.
+// A read for a file with these flow characters: its counts (30), its name's length (5) and bytes (6), its clips (9),
+// the flow walk (10), a base (11).
 fn given_test(
     characters: &[u8],
     name: &[u8],
@@ -92,7 +94,7 @@ fn given_test(
     own(bases_test(characters, increments, bases))
 }
 
-// A new file's reasons to refuse: 5, 6, 26.
+// A new file's reasons to refuse: too many characters (5), a character (6), no room (26).
 fn new_test(room: usize, flows: &[u8], key: &[u8]) -> Answer
     ensures { λ r. ⌜ r ≡ newTest room (now (flows .entry)) (now (key .entry)) ⌝ }
 {
@@ -111,7 +113,8 @@ fn new_test(room: usize, flows: &[u8], key: &[u8]) -> Answer
     Answer::Accepted
 }
 
-// Puts a new file, with no reads and no index, at the front of the buffer. Answers its length, or 5, 6 or 26 and 0 with the buffer as it was.
+// Puts a new file, with no reads and no index, at the front of the buffer. Answers its length; refused, 0, with the
+// buffer as it was.
 pub fn new_file(buffer: &mut [u8], flows: &[u8], key: &[u8]) -> Outcome
     ensures { λ r. ⌜ r ≡ newOutcome (now (buffer .entry)) (now (flows .entry)) (now (key .entry)) ⌝ }
     ensures { λ _. ⌜ now (buffer .exit) ≡ newBuffer (now (buffer .entry)) (now (flows .entry)) (now (key .entry)) ⌝ }
@@ -125,7 +128,7 @@ pub fn new_file(buffer: &mut [u8], flows: &[u8], key: &[u8]) -> Outcome
     Outcome { answer, length }
 }
 
-// The reasons that a file gives against any read: its own refusal, 25, 31.
+// The reasons that a file gives against any read: its own refusal, an index (25), as many reads as can be counted (31).
 fn open_test(file: &[u8]) -> Answer
     ensures { λ r. ⌜ r ≡ openTest (now (file .entry)) ⌝ }
 {
@@ -143,7 +146,7 @@ fn open_test(file: &[u8]) -> Answer
     Answer::Accepted
 }
 
-// An append's reasons to refuse: 14, those of the file, those of the read, 26.
+// An append's reasons to refuse: a length above the buffer (14), those of the file, those of the read, no room (26).
 fn append_test(
     buffer: &[u8],
     file_length: usize,
@@ -183,8 +186,8 @@ fn append_test(
     Answer::Accepted
 }
 
-// Puts a read behind the file that fills the first `file_length` bytes of the buffer, and counts it. Answers the file's length afterwards; refused, the
-// length that was given, with the buffer as it was.
+// Puts a read behind the file that fills the first `file_length` bytes of the buffer, and counts it. Answers the file's
+// length afterwards; refused, the length that was given, with the buffer as it was.
 pub fn append(
     buffer: &mut [u8],
     file_length: usize,

@@ -17,7 +17,7 @@ orDash xs = cond (eqb (length xs) 0) (45 ∷ []) xs
 pub record Room (at : ℕ) (xs l : List ℕ) : Type 0 where
   pub fits : at + length xs ≤ length l
 
--- what a call that is to put a text comes to: its answer, and the text that it puts
+-- the result of a call that puts a text: its answer, and the text, none where it refuses
 pub record Fitted : Type 0 where
   pub answer : Answer
   pub text : List ℕ

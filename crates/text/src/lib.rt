@@ -3,7 +3,7 @@ use answers::Answer;
 
 pub mod inner;
 
-// What a call that puts a text answers: 26 or none, and the text's length (refused: 0).
+// What a call that puts a text answers: no room (26) or no refusal, and the text's length (refused: 0).
 pub struct Written {
     pub answer: Answer,
     pub length: usize,

@@ -17,7 +17,7 @@ returns c =
     let values = increments .before .before .before .before in
     let asked = start values .pre in
     data-put _ _ _ _ _ _ (asked .1 .0) (asked .1 .1) (values .put-words .ensures) (increments .put-bytes .ensures)
-        (bases .put-bytes2 .ensures) (qualities .put-bytes3 .ensures) (padding .put-padding .ensures) (asked .0)
+    (bases .put-bytes2 .ensures) (qualities .put-bytes3 .ensures) (padding .put-padding .ensures) (asked .0)
 
 pub put-read-data-spec : {M : Type 1} → statement M
 put-read-data-spec =

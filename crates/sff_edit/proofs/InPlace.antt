@@ -63,7 +63,8 @@ name-padded name = filled (nameRoom (length name)) name
 
 -- a read by these pieces, between what stands before it and what stands after
 pieces : (front : List ℕ) (x : Read) (back : List ℕ)
-    → front ++ (layoutRead x ++ back) ≡ front ++ (lengths (length (x .name)) ++ (bases x ++ (clip-bytes x ++ (name-padded (x .name) ++ (layoutReadData x ++ back)))))
+    → front ++ (layoutRead x ++ back)
+    ≡ front ++ (lengths (length (x .name)) ++ (bases x ++ (clip-bytes x ++ (name-padded (x .name) ++ (layoutReadData x ++ back)))))
 unfolding layoutRead layoutReadHeader readFields filled fields unitBytes
 pieces front x back =
     let l : length (fields (readFields x) ++ x .name) ≡ 16 + length (x .name) = rw (length-append, length-fields) in
@@ -97,7 +98,8 @@ name-put p len n field b {old} {new} {s} e₁ e₂ e₃ e₄ e₅ h =
     e₅ ∙ ap (putAt (p + 2) (bytesOf 2 n)) e₄ ∙ put-next p 2 (bytesOf 2 new) (bytesOf 2 n) s (length-bytesOf 2 new) h ∙ rw (e₃, e₂, e₁)
 
 -- a read cut out, and the count put
-pub read-cut : (p size len : ℕ) (b : List ℕ) {reads : ℕ} {s t : List ℕ} → reads ≡ readCount b → s ≡ spliced p size len [] b → t ≡ putAt 20 (bytesOf 4 (reads - 1)) s → t ≡ removedAt p size len b
+pub read-cut : (p size len : ℕ) (b : List ℕ) {reads : ℕ} {s t : List ℕ} → reads ≡ readCount b → s ≡ spliced p size len [] b
+    → t ≡ putAt 20 (bytesOf 4 (reads - 1)) s → t ≡ removedAt p size len b
 unfolding removedAt
 read-cut p size len b e₁ e₂ e₃ = e₃ ∙ rw (e₁, e₂)
 
@@ -304,9 +306,11 @@ module _ {buffer : List ℕ} {len p : ℕ} {x : Fields} {r : List ℕ} (s : Read
         let i = name-inside in
         let w : ℕ = nameRoom (newLength r) in
         let z = new-zeros r (s .formed) (eq-eqb _ 2 (sym (kind-of x r (s .fields-are)) ∙ k)) in
-        rw (n, new-size r (s .formed), take-take w 40 (drop 56 r) (omega arith)) (field-filled 56 (newLength r) 40 w r (omega (arith, ready-record)) z (omega arith) (omega arith))
+        rw (n, new-size r (s .formed), take-take w 40 (drop 56 r) (omega arith))
+        (field-filled 56 (newLength r) 40 w r (omega (arith, ready-record)) z (omega arith) (omega arith))
 
-    pub name-done : {v : ℕ} {field b : List ℕ} → field ≡ part 56 40 r → v ≡ len - sectionLength buffer p + up8 (16 + x .«new_length») → b ≡ renamedAt p len (x .«new_length») field buffer
+    pub name-done : {v : ℕ} {field b : List ℕ} → field ≡ part 56 40 r
+        → v ≡ len - sectionLength buffer p + up8 (16 + x .«new_length») → b ≡ renamedAt p len (x .«new_length») field buffer
         → (v ≡ length new) × (b ≡ over new len buffer)
     unfolding renamedAt
     name-done g t e =

@@ -77,7 +77,8 @@ module _ {b r : List ℕ} {x : Fields} (s : Found b r x) where
   unfolding changeIn
   not-clips P k h l = rw (ne-eqb (kind r) 1 (λ e. k (kind-of x r (s .fields-of) ∙ e))) (cond-keeps P (eqb (kind r) 2) _ _ h l)
 
-  not-rename : (P : Change → Type 0) → (x .kind ≡ 2 → ⊥) → P (clips (newQualityLeft r) (newQualityRight r) (newAdapterLeft r) (newAdapterRight r)) → P remove → P (changeIn r)
+  not-rename : (P : Change → Type 0) → (x .kind ≡ 2 → ⊥)
+      → P (clips (newQualityLeft r) (newQualityRight r) (newAdapterLeft r) (newAdapterRight r)) → P remove → P (changeIn r)
   unfolding changeIn
   not-rename P k h l = rw (ne-eqb (kind r) 2 (λ e. k (kind-of x r (s .fields-of) ∙ e))) (cond-keeps P (eqb (kind r) 1) _ _ h l)
 
@@ -124,7 +125,8 @@ module _ {b r : List ℕ} {x : Fields} (s : Found b r x) where
         let c = asked x r in
         let m : length (layout (edited c (parse b))) ≤ length b =
         not-rename (λ y. changeIn r ≡ y → length (layout (edited c (parse b))) ≤ length b) k
-        (λ e. let n = clips-size c (parse b) count _ _ _ _ e in omega (arith, n, laid)) (λ e. let n = none-size c (parse b) count e in omega (arith, n, laid)) refl in
+        (λ e. let n = clips-size c (parse b) count _ _ _ _ e in omega (arith, n, laid))
+        (λ e. let n = none-size c (parse b) count e in omega (arith, n, laid)) refl in
         let n : length (layout (edited c (parse b))) ≤ room = omega arith in
         rw (has-target, le-ltb room _ n)
 
@@ -180,8 +182,9 @@ module _ {b r : List ℕ} {x : Fields} (s : Found b r x) where
         unfolding acceptedOr
         all-within f = sym (clips-told ∙ rw f)
 
-      -- room (26), by the lengths of the two header sections, the old and the new
-      pub room-told : x .kind ≡ 2 → length b ≤ room → {k u : ℕ} → k ≡ sectionLength b p → u ≡ up8 (16 + x .«new_length») → ltb (room - length b + k) u ≡ noRoom room (asked x r) (parse b)
+      -- 26, by the two header sections
+      pub room-told : x .kind ≡ 2 → length b ≤ room → {k u : ℕ} → k ≡ sectionLength b p → u ≡ up8 (16 + x .«new_length»)
+          → ltb (room - length b + k) u ≡ noRoom room (asked x r) (parse b)
       unfolding noRoom
       room-told k h e f =
           let n = name-size (asked x r) (parse b) count (newName r) (rename-asked x r (s .fields-of) k) in

@@ -14,11 +14,13 @@ use Rattle.answers.proofs.Chains.{refuses, accepts}
 use Rattle.sff_correction.specs.Record.{nameFieldTest, unusedTest}
 
 -- bytes from p to p + n
-pub stretch : (p n : ℕ) (r : List ℕ) (test : ℕ → Bool) {t v : Bool} → t ≡ fails test (part p (p + n - p) r) → t ≡ v → fails test (part p n r) ≡ v
+pub stretch : (p n : ℕ) (r : List ℕ) (test : ℕ → Bool) {t v : Bool} → t ≡ fails test (part p (p + n - p) r) → t ≡ v
+    → fails test (part p n r) ≡ v
 stretch p n r test e f = sym (rw add-sub-cancel-left at e) ∙ f
 
 -- the zeros after a name of n bytes
-pub zeros-after : (p n : ℕ) (r : List ℕ) {x : Answer} → n ≤ 40 → x ≡ unusedTest (p + n) (p + 40 - (p + n)) r → x ≡ when (fails isZero (part (p + n) (40 - n) r)) 20 0
+pub zeros-after : (p n : ℕ) (r : List ℕ) {x : Answer} → n ≤ 40 → x ≡ unusedTest (p + n) (p + 40 - (p + n)) r
+    → x ≡ when (fails isZero (part (p + n) (40 - n) r)) 20 0
 unfolding unusedTest
 zeros-after p n r h e = let w : p + 40 - (p + n) ≡ 40 - n = omega arith in rw w at e
 

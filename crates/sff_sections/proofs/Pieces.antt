@@ -20,11 +20,13 @@ pub bytes-put : (at : ℕ) (xs s : List ℕ) {s₁ : List ℕ} → s₁ ≡ putA
 bytes-put at xs s e = rw take-length at e
 
 -- zeros to the next multiple of 8, which is n
-pub zeros-put : (at used n : ℕ) (s : List ℕ) {s₁ : List ℕ} → n ≡ up8 used → s₁ ≡ putAt (at + used) (replicate (at + n - (at + used)) 0) s → s₁ ≡ putAt (at + used) (replicate (up8 used - used) 0) s
+pub zeros-put : (at used n : ℕ) (s : List ℕ) {s₁ : List ℕ} → n ≡ up8 used
+    → s₁ ≡ putAt (at + used) (replicate (at + n - (at + used)) 0) s → s₁ ≡ putAt (at + used) (replicate (up8 used - used) 0) s
 zeros-put at used n s e₁ e₂ = let e : at + up8 used - (at + used) ≡ up8 used - used = omega arith in rw (e₁, e) at e₂
 
 -- zeros behind a list
-pub padding-put : (at n : ℕ) (xs s : List ℕ) → length xs ≡ n → at + n ≤ length s → putAt (at + n) (replicate (up8 n - n) 0) (putAt at xs s) ≡ putAt at (padded xs) s
+pub padding-put : (at n : ℕ) (xs s : List ℕ) → length xs ≡ n → at + n ≤ length s
+    → putAt (at + n) (replicate (up8 n - n) 0) (putAt at xs s) ≡ putAt at (padded xs) s
 unfolding filled
 padding-put at n xs s e h = rw e (put-next at n xs (replicate (up8 n - n) 0) s e h)
 
@@ -41,11 +43,13 @@ each-put at k (x ∷ xs) s h =
     let ys : List ℕ = bytesOf w (x .1) in
     let len : length ys ≡ w = length-bytesOf w (x .1) in
     let same : length (putAt (at + k) ys s) ≡ length s = length-put (at + k) ys s (rw len (omega arith)) in
-    let more : putEach at (k + w) xs (putAt (at + k) ys s) ≡ putAt (at + (k + w)) (fields xs) (putAt (at + k) ys s) = each-put at (k + w) xs (putAt (at + k) ys s) (rw same (omega arith)) in
+    let s₁ : List ℕ = putAt (at + k) ys s in
+    let more : putEach at (k + w) xs s₁ ≡ putAt (at + (k + w)) (fields xs) s₁ = each-put at (k + w) xs s₁ (rw same (omega arith)) in
     more ∙ rw (← add-assoc) (put-next (at + k) w ys (fields xs) s len (omega arith))
 
 -- fields behind fields
-pub fields-put : (at k : ℕ) (xs ys : List (ℕ × ℕ)) (s : List ℕ) → width xs ≡ k → at + k ≤ length s → putAt (at + k) (fields ys) (putAt at (fields xs) s) ≡ putAt at (fields (xs ++ ys)) s
+pub fields-put : (at k : ℕ) (xs ys : List (ℕ × ℕ)) (s : List ℕ) → width xs ≡ k → at + k ≤ length s
+    → putAt (at + k) (fields ys) (putAt at (fields xs) s) ≡ putAt at (fields (xs ++ ys)) s
 fields-put at k xs ys s e h = rw fields-append (put-next at k (fields xs) (fields ys) s (length-fields xs ∙ e) h)
 
 pub clips-put :
@@ -105,7 +109,8 @@ lengths-put F K n s e e₁ e₂ e₃ h =
     let xs : List (ℕ × ℕ) = (2, up8 (31 + F + K)) ∷ (2, K) ∷ (2, F) ∷ [] in
     let len : length (fields xs) ≡ 6 = length-fields xs in
     let same : length (putAt 24 (fields xs) s) ≡ length s = length-put 24 (fields xs) s (rw len (omega arith)) in
-    rw (e₃, e₂, e₁, e, each-put 24 0 xs s (omega arith)) (code-put 30 (putAt 24 (fields xs) s) (rw same (omega arith)) ∙ fields-put 24 6 xs ((1, 1) ∷ []) s refl (omega arith))
+    rw (e₃, e₂, e₁, e, each-put 24 0 xs s (omega arith))
+    (code-put 30 (putAt 24 (fields xs) s) (rw same (omega arith)) ∙ fields-put 24 6 xs ((1, 1) ∷ []) s refl (omega arith))
 
 -- a read's header section
 pub head-put :

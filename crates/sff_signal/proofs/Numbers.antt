@@ -84,7 +84,8 @@ min-max [] = omega arith
 min-max (x ∷ []) = omega arith
 min-max (x ∷ y ∷ ys) = omega arith
 
-pub whole-small : (xs : List ℕ) → Words xs → length xs < 65536 → (maxOf xs < 4294967296) × (minOf xs < 4294967296) × (sumOf xs < 4294967296) × (100 * length xs < 4294967296)
+pub whole-small : (xs : List ℕ) → Words xs → length xs < 65536
+    → (maxOf xs < 4294967296) × (minOf xs < 4294967296) × (sumOf xs < 4294967296) × (100 * length xs < 4294967296)
 whole-small xs w h =
     let s = sum-small xs w in
     let m = max-sum xs in

@@ -90,7 +90,8 @@ module _ (b : List ℕ) {a : Answer} (e : a ≡ openTest b) (t : a ≡ Accepted)
 
 -- what a read that is not refused shows
 module _ (characters : List ℕ) (r : Read) {d : Answer} (e : d ≡ givenTest characters r) (t : d ≡ Accepted) where
-  given-counts : (length (r .values) ≡ length characters) × (length (r .increments) ≡ length (r .bases)) × (length (r .qualities) ≡ length (r .bases)) × (length (r .bases) < 4294967296)
+  given-counts : (length (r .values) ≡ length characters) × (length (r .increments) ≡ length (r .bases))
+      × (length (r .qualities) ≡ length (r .bases)) × (length (r .bases) < 4294967296)
   unfolding givenTest
   given-counts = counts-ok _ _ _ _ _ (when-ok _ _ _ (first-ok _ _ (sym e ∙ t)))
 
@@ -175,10 +176,12 @@ module _ (buffer : List ℕ) (len : ℕ) (r : Read) {a : Answer} (e : a ≡ appe
     unfolding number
     counted f = let h = file-fits in rw (part-take 20 4 len buffer (omega arith) (omega arith)) (sym f)
 
-    pub append-outcome : {z : ℕ} → z ≡ up8 (16 + length (r .name)) + up8 (2 * length (r .values) + 3 * length (r .bases)) → record { answer = a; length = len + z } ≡ appendOutcome buffer len r
+    pub append-outcome : {z : ℕ} → z ≡ up8 (16 + length (r .name)) + up8 (2 * length (r .values) + 3 * length (r .bases))
+        → record { answer = a; length = len + z } ≡ appendOutcome buffer len r
     unfolding appendOutcome acceptedOr
     append-outcome f = rw (← e, t, f, sized)
 
-    pub append-buffer : {n : ℕ} → n ≡ number 4 20 buffer → {b b′ : List ℕ} → b ≡ putAt len (layoutRead r) buffer → b′ ≡ putAt 20 (bytesOf 4 (n + 1)) b → b′ ≡ appendBuffer buffer len r
+    pub append-buffer : {n : ℕ} → n ≡ number 4 20 buffer → {b b′ : List ℕ} → b ≡ putAt len (layoutRead r) buffer
+        → b′ ≡ putAt 20 (bytesOf 4 (n + 1)) b → b′ ≡ appendBuffer buffer len r
     unfolding appendBuffer acceptedOr
     append-buffer f g h = h ∙ rw (g, ← e, t, counted f)

@@ -21,9 +21,10 @@ use Rattle.sff_corrector.proofs.carry_out.Tie as tie
 size : (s : tie.Start) → s .args .len ≡ length (take (s .args .len) (s .args .buffer .now))
 size s = sym (length-take-le (s .args .len) (s .args .buffer .now) (s .pre .0 .inside))
 
--- the start, from the places where the fields are read, 21 does not hold, the read is found, no reason holds
+-- the places: the start, from where the fields are read; that, from where 21 does not hold; that, from where the read is
+-- found; that, from where the reasons are asked; that, from where none holds
 abbrev at-fields : tie.After-record-fields → tie.Start
-at-fields d = d .before .before .before
+at-fields c = c .before .before .before
 
 abbrev at-21 : tie.Else1 → tie.After-record-fields
 at-21 c = c .before .before .before
@@ -31,22 +32,31 @@ at-21 c = c .before .before .before
 abbrev at-found : tie.After-find-from → tie.Else1
 at-found c = c .before .before
 
-abbrev at-judged : tie.After-enum-told → tie.After-find-from
-at-judged c = c .before .before .before .before
+abbrev at-asked : tie.After-reason → tie.After-find-from
+at-asked c = c .before .before
 
-below : (c : tie.Else1) → at-21 c .record-fields .result .position < readCount (take (at-fields (at-21 c) .args .len) (at-fields (at-21 c) .args .buffer .now))
+abbrev at-judged : tie.After-enum-told → tie.After-reason
+at-judged c = c .before .before
+
+below : (c : tie.Else1) → let d = at-21 c in let a = at-fields d .args in
+    d .record-fields .result .position < readCount (take (a .len) (a .buffer .now))
 below c =
-    let a = at-fields (at-21 c) .args in
-    below-count (take (a .len) (a .buffer .now)) (a .«record» .now) (at-21 c .record-fields .result) 0 (sym (c .before .position-above .ensures 0) ∙ c .if1 .left)
+    let d = at-21 c in
+    let a = at-fields d .args in
+    let t = sym (c .before .position-above .ensures 0) ∙ c .if1 .left in
+    below-count (take (a .len) (a .buffer .now)) (a .«record» .now) (d .record-fields .result) 0 t
 
-no-reason : (c : tie.After-enum-told)
-    → Accepted ≡ correctTest (at-fields (at-21 (at-found (at-judged c))) .args .buffer .now) (at-fields (at-21 (at-found (at-judged c))) .args .len) (at-fields (at-21 (at-found (at-judged c))) .args .«record» .now)
-no-reason c =
-    let d = at-21 (at-found (at-judged c)) in
+-- the reasons' answer is the whole test's
+judged : (c : tie.After-reason) → let a = at-fields (at-21 (at-found (at-asked c))) .args in
+    c .reason .result ≡ correctTest (a .buffer .now) (a .len) (a .«record» .now)
+judged c =
+    let d = at-21 (at-found (at-asked c)) in
     let s = at-fields d in
-    let a = s .args in
-    sym (c .enum-told .given .1)
-    ∙ reasons-are (a .buffer .now) (a .len) (a .«record» .now) (s .pre .0 .inside) (s .pre .1) (s .pre .0 .accepted) _ (d .record-fields .ensures) (c .before .before .reason .ensures)
+    reasons-are _ _ _ (s .pre .0) (s .pre .1) _ (d .record-fields .ensures) (c .reason .ensures)
+
+no-reason : (c : tie.After-enum-told) → let a = at-fields (at-21 (at-found (at-asked (at-judged c)))) .args in
+    Accepted ≡ correctTest (a .buffer .now) (a .len) (a .«record» .now)
+no-reason c = sym (c .enum-told .given .1) ∙ judged (at-judged c)
 
 record-fields-requires : tie.Need-record-fields-requires
 record-fields-requires c κs = record-96 _ (c .before .before .pre .1)
@@ -58,49 +68,48 @@ returns : tie.Need-returns
 returns c =
     let d = c .before .before .before in
     let s = at-fields d in
-    let a = s .args in
-    let t = stopped (a .buffer .now) (a .len) (a .«record» .now)
-    (stop-21 (a .buffer .now) (a .len) (a .«record» .now) (s .pre .0 .inside) (s .pre .1) (s .pre .0 .accepted) _ (d .record-fields .ensures) (c .before .position-above .ensures) (c .if1 .taken)) in
-    (t .0, (t .1, tt))
+    let above = c .before .position-above .ensures in
+    stopped _ _ _ (stop-21 _ _ _ (s .pre .0) (s .pre .1) _ (d .record-fields .ensures) above (c .if1 .taken))
 
 slice-aggregate-find-from : tie.Need-slice-aggregate-find-from
 slice-aggregate-find-from c = size (at-fields (at-21 (c .before)))
 
 find-from-requires : tie.Need-find-from-requires
-find-from-requires c κs = let e = at-fields (at-21 (c .before)) .pre .0 in (e .accepted, (below (c .before), e .start))
+find-from-requires c κs =
+    let e = at-fields (at-21 (c .before)) .pre .0 in
+    (e .accepted, (below (c .before), e .start))
 
 slice-aggregate-reason : tie.Need-slice-aggregate-reason
 slice-aggregate-reason c = size (at-fields (at-21 (at-found (c .before))))
 
 reason-requires : tie.Need-reason-requires
 reason-requires c κs =
-    let d = at-21 (at-found (c .before)) in
+    let f = c .before in
+    let d = at-21 (at-found f) in
     let s = at-fields d in
-    (s .pre .0 .accepted, (s .pre .1, (own-fields _ _ (d .record-fields .ensures), (below (at-found (c .before)), (c .before .find-from .ensures, omega (arith, size s, s .pre .0 .inside))))))
+    let fields = own-fields _ _ (d .record-fields .ensures) in
+    let found = below (at-found f) in
+    (s .pre .0 .accepted, (s .pre .1, (fields, (found, (f .find-from .ensures, omega (arith, size s, s .pre .0 .inside))))))
 
 returns-2 : tie.Need-returns-2
-returns-2 c =
-    let d = at-21 (at-found (c .before .before .before .before .before)) in
-    let s = at-fields d in
-    let a = s .args in
-    let e = reasons-are (a .buffer .now) (a .len) (a .«record» .now) (s .pre .0 .inside) (s .pre .1) (s .pre .0 .accepted) _ (d .record-fields .ensures) (c .before .before .before .reason .ensures) in
-    let t = stopped (a .buffer .now) (a .len) (a .«record» .now) (sym (c .before .answer .given .1) ∙ e) in
-    (t .0, (t .1, tt))
+returns-2 c = stopped _ _ _ (sym (c .before .answer .given .1) ∙ judged (c .before .before .before))
 
 apply-requires : tie.Need-apply-requires
 apply-requires c κs =
-    let f = at-judged (c .before) in
+    let j = at-judged (c .before) in
+    let f = at-asked j in
     let d = at-21 (at-found f) in
-    let s = at-fields d in
-    (s .pre .0 .inside, (s .pre .0 .accepted, (s .pre .1, (own-fields _ _ (d .record-fields .ensures), (f .find-from .ensures, sym (c .before .before .before .reason .ensures) ∙ c .before .enum-told .given .1)))))
+    let e = at-fields d .pre in
+    let fields = own-fields _ _ (d .record-fields .ensures) in
+    let none = sym (j .reason .ensures) ∙ c .before .enum-told .given .1 in
+    (e .0 .inside, (e .0 .accepted, (e .1, (fields, (f .find-from .ensures, none)))))
 
 returns-3 : tie.Need-returns-3
 returns-3 c =
     let j = c .before .before .before .before in
-    let f = at-judged j in
+    let f = at-asked (at-judged j) in
     let d = at-21 (at-found f) in
-    let s = at-fields d in
-    let a = s .args in
+    let a = at-fields d .args in
     let o = d .record-fields .ensures in
     let p = c .before .before .apply .ensures in
     let n = rw (own-asked _ _ o) at (p .0) in
@@ -108,7 +117,8 @@ returns-3 c =
     let t = done (a .buffer .now) (a .len) (a .«record» .now) (no-reason j) n b in
     let y = bytes-of (a .buffer .now) (λ i. d .before .before .slice-known .given i .fits) in
     let z = bytes-of (a .«record» .now) (λ i. d .before .shared-slice-known .given i .fits) in
-    (t .0, (t .1, ready (a .buffer .now) (a .len) (a .«record» .now) (no-reason j) y z n b (ap (λ (x : Fields). x .position) o) (f .find-from .ensures)))
+    let i = ap (λ (x : Fields). x .position) o in
+    (t .0, (t .1, ready (a .buffer .now) (a .len) (a .«record» .now) (no-reason j) y z n b i (f .find-from .ensures)))
 
 pub carry-out-spec : {M : Type 1} → statement M
 carry-out-spec =

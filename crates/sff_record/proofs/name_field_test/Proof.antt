@@ -7,19 +7,22 @@ use Rattle.sff_record.proofs.name_field_test.Statement.{statement}
 use Rattle.sff_record.proofs.name_field_test.Tie as tie
 
 returns : tie.Need-returns
+unfolding nameFieldTest
 returns c = search refusal
 
 returns-2 : tie.Need-returns-2
+unfolding nameFieldTest
 returns-2 c = search refusal
 
 returns-3 : tie.Need-returns-3
+unfolding nameFieldTest
 returns-3 c = search (refusal, stretch)
 
 returns-4 : tie.Need-returns-4
+unfolding nameFieldTest
 returns-4 c = search (onward, stretch, zeros-after)
 
 pub name-field-test-spec : {M : Type 1} → statement M
-unfolding nameFieldTest
 name-field-test-spec =
     tie.close
     (tie.spec

@@ -7,11 +7,12 @@ use Rattle.sff_record.proofs.new_clips_test.Statement.{statement}
 use Rattle.sff_record.proofs.new_clips_test.Tie as tie
 
 returns : tie.Need-returns
+unfolding newClipsTest
 returns c = search (used, eq-eqb)
 
 returns-2 : tie.Need-returns-2
+unfolding newClipsTest
 returns-2 c = search (unused, ne-eqb)
 
 pub new-clips-test-spec : {M : Type 1} → statement M
-unfolding newClipsTest
 new-clips-test-spec = tie.close (tie.spec (λ c. search needs) returns (λ c κs. search needs) returns-2)

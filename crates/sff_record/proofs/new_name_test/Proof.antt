@@ -8,16 +8,18 @@ use Rattle.sff_record.proofs.new_name_test.Statement.{statement}
 use Rattle.sff_record.proofs.new_name_test.Tie as tie
 
 returns : tie.Need-returns
+unfolding newNameTest
 returns c = search (used, name-tested, eq-eqb)
 
 returns-2 : tie.Need-returns-2
+unfolding newNameTest
 returns-2 c = search (unused, refuses, ne-eqb)
 
 returns-3 : tie.Need-returns-3
+unfolding newNameTest
 returns-3 c = search (unused, accepts, ne-eqb)
 
 pub new-name-test-spec : {M : Type 1} → statement M
-unfolding newNameTest
 new-name-test-spec =
     tie.close
     (tie.spec

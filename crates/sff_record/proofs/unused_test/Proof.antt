@@ -7,13 +7,21 @@ use Rattle.sff_record.proofs.unused_test.Statement.{statement}
 use Rattle.sff_record.proofs.unused_test.Tie as tie
 
 returns : tie.Need-returns
+unfolding unusedTest
 returns c = search (refusal, stretch)
 
 returns-2 : tie.Need-returns-2
+unfolding unusedTest
 returns-2 c = search (onward, stretch)
 
 pub unused-test-spec : {M : Type 1} → statement M
-unfolding unusedTest
 unused-test-spec =
     tie.close
-    (tie.spec (λ c. search needs) (λ c. search needs) (λ c. search needs) (λ c. search needs) (λ c κs. search needs) returns returns-2)
+    (tie.spec
+    (λ c. search needs)
+    (λ c. search needs)
+    (λ c. search needs)
+    (λ c. search needs)
+    (λ c κs. search needs)
+    returns
+    returns-2)

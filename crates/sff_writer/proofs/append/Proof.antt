@@ -8,10 +8,10 @@ use borrow.Author.Needs.{needs}
 use Rattle.sff_writer.proofs.append.Statement.{statement}
 use Rattle.sff_writer.proofs.append.Tie as tie
 
--- the places: the buffer's bytes known, the test has accepted, the same from where the read is put, and from where the
--- count is
+-- the places: the buffer's bytes are known, the test has accepted, the same from where the read is put, and from where
+-- the count is
 abbrev entered : tie.After-append-test → tie.After-slice-known
-entered c = c .before .before .before .before .before .before .before
+entered c = let known = c .before .before .before .before in known .before .before .before
 
 abbrev start : tie.After-enum-told → tie.Start
 start c = entered (c .before .before) .before
@@ -20,10 +20,11 @@ abbrev accepted : tie.After-put-read → tie.After-enum-told
 accepted c = c .before .before .before .before
 
 abbrev counted : tie.After-slice-known3 → tie.After-enum-told
-counted c = accepted (c .before .before .before .before .before .before)
+counted c = let count = c .before .before in accepted (count .before .before .before .before)
 
 fits : (c : tie.After-enum-told) → let a = start c .args in
-    Fits (a .buffer .now) (a .file-length) (readOf (a .name .now) (a .clips) (a .values .now) (a .increments .now) (a .bases .now) (a .qualities .now))
+    let r = readOf (a .name .now) (a .clips) (a .values .now) (a .increments .now) (a .bases .now) (a .qualities .now) in
+    Fits (a .buffer .now) (a .file-length) r
 fits c =
     let bytes = bytes-of (start c .args .buffer .now) (λ j. entered (c .before .before) .slice-known .given j .fits) in
     append-fits _ _ _ (search) (c .enum-told .given .1) bytes

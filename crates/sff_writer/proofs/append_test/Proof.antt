@@ -14,12 +14,12 @@ returns : tie.Need-returns
 unfolding appendTest
 returns c = search refusal
 
+slice-aggregate-file : tie.Need-slice-aggregate-file
+slice-aggregate-file c = sym (length-take-le _ _ (c .before .if1 .left))
+
 returns-2 : tie.Need-returns-2
 unfolding appendTest
 returns-2 c = search refusal
-
-slice-aggregate-file : tie.Need-slice-aggregate-file
-slice-aggregate-file c = sym (length-take-le _ _ (c .before .if1 .left))
 
 header-fields-requires : tie.Need-header-fields-requires
 header-fields-requires c κs = search open-header

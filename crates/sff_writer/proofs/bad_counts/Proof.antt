@@ -1,3 +1,4 @@
+-- The code joins the same four conditions as the definition, in the same order.
 use borrow.Author.Needs.{needs}
 use Rattle.sff_format.specs.Writing.{badCounts}
 use Rattle.sff_writer.proofs.bad_counts.Statement.{statement}

@@ -1,3 +1,4 @@
+-- `clip_test` gives the test of the four clips, and `own` gives what the writer says of it.
 use borrow.Author.Needs.{needs}
 use Rattle.sff_writer.proofs.clips_test.Statement.{statement}
 use Rattle.sff_writer.proofs.clips_test.Tie as tie
@@ -7,4 +8,12 @@ returns c = cc
 
 pub clips-test-spec : {M : Type 1} → statement M
 clips-test-spec =
-    tie.close (tie.spec (λ c. search needs) (λ c. search needs) (λ c. search needs) (λ c. search needs) (λ c κs. search needs) (λ c κs. search needs) returns)
+    tie.close
+    (tie.spec
+    (λ c. search needs)
+    (λ c. search needs)
+    (λ c. search needs)
+    (λ c. search needs)
+    (λ c κs. search needs)
+    (λ c κs. search needs)
+    returns)

@@ -7,22 +7,26 @@ use Rattle.sff_writer.proofs.new_test.Statement.{statement}
 use Rattle.sff_writer.proofs.new_test.Tie as tie
 
 returns : tie.Need-returns
+unfolding newTest
 returns c = search (refusal, over-first)
 
 returns-2 : tie.Need-returns-2
+unfolding newTest
 returns-2 c = search (refusal, over-second)
 
 returns-3 : tie.Need-returns-3
+unfolding newTest
 returns-3 c = search (refusal, not-over, either-told)
 
 returns-4 : tie.Need-returns-4
+unfolding newTest
 returns-4 c = search (refusal, not-over, either-told, new-over)
 
 returns-5 : tie.Need-returns-5
+unfolding newTest
 returns-5 c = search (onward, not-over, either-told, new-within)
 
 pub new-test-spec : {M : Type 1} → statement M
-unfolding newTest
 new-test-spec =
     tie.close
     (tie.spec

@@ -1,3 +1,4 @@
+-- In either case of the answer the definition gives what the code does.
 use Rattle.answers.specs.Answer.{own}
 use borrow.Author.Needs.{needs}
 use Rattle.sff_writer.proofs.own.Statement.{statement}

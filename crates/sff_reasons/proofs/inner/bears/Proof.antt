@@ -1,7 +1,7 @@
--- At each turn the reads at the boundary and after it decide.
+-- At each turn the reads at the boundary and after it decide: the one at it ends the search or is passed over, and
+-- where none is left, none has the name.
 use Prim.Native.Nat.{ℕ, _-_, _<_}
 use mathlib.Core.List.{List}
-use native.Mathlib.Omega.{arith}
 use Rattle.sff_format.specs.HeaderTest.{readCount}
 use Rattle.sff_format.proofs.HeaderLaws.{fits-31}
 use Rattle.sff_format.proofs.FileLaid.{head-ok}
@@ -24,36 +24,44 @@ header-fields-requires c κs = fits-31 _ (head-ok _ (c .before .before .pre))
 loop-holds : tie.Need-loop-holds Inv-loop μ-loop
 loop-holds c = sought-start _ _ _ (c .before .before .before .before .pre) (c .first-boundary .ensures)
 
-abbrev file : tie.After-first-boundary Inv-loop μ-loop → List ℕ
-file d = d .before .before .before .before .args .s .now
+-- the places: the header's fields are read, from the loop; a turn of the loop, from the read's start
+abbrev at-header : tie.At-loop Inv-loop μ-loop → tie.After-header-fields Inv-loop μ-loop
+at-header c = c .before .before
+
+abbrev at-loop : tie.After-past-index Inv-loop μ-loop → tie.At-loop Inv-loop μ-loop
+at-loop c = c .before .before .before
+
+abbrev file : tie.At-loop Inv-loop μ-loop → List ℕ
+file c = at-header c .before .before .before .args .s .now
 
 -- a read stands past any index
-remains : (c : tie.After-past-index Inv-loop μ-loop) → c .before .before .before .loop .behind < readCount (file (c .before .before .before .before))
-remains c = rw (reads-of _ _ (c .before .before .before .before .before .header-fields .ensures .0)) (c .before .if1 .taken)
+remains : (c : tie.After-past-index Inv-loop μ-loop) → at-loop c .loop .behind < readCount (file (at-loop c))
+remains c = rw (reads-of _ _ (at-header (at-loop c) .header-fields .ensures .0)) (c .before .if1 .taken)
 
 has-name-requires : tie.Need-has-name-requires Inv-loop μ-loop
-has-name-requires c κs = walk-name (c .before .before .before .loop .inv .walk) (c .past-index .ensures) (remains c)
+has-name-requires c κs = walk-name (at-loop c .loop .inv .walk) (c .past-index .ensures) (remains c)
 
 returns : tie.Need-returns Inv-loop μ-loop
 returns c =
     let s = c .before .before in
-    sought-found (s .before .before .before .loop .inv) (s .past-index .ensures) (remains s) (c .before .has-name .ensures) (c .if2 .taken)
+    sought-found (at-loop s .loop .inv) (s .past-index .ensures) (remains s) (c .before .has-name .ensures) (c .if2 .taken)
 
 next-boundary-requires : tie.Need-next-boundary-requires Inv-loop μ-loop
 next-boundary-requires c κs =
     let s = c .before .before in
-    let h = s .before .before .before .before .before .header-fields .ensures in
-    (h .0, (h .1, walk-begins (s .before .before .before .loop .inv .walk) (s .past-index .ensures) (remains s)))
+    let h = at-header (at-loop s) .header-fields .ensures in
+    (h .0, (h .1, walk-begins (at-loop s .loop .inv .walk) (s .past-index .ensures) (remains s)))
 
 loop-again : tie.Need-loop-again Inv-loop μ-loop
 loop-again c =
     let s = c .before .before .before in
-    sought-more (s .before .before .before .loop .inv) (s .past-index .ensures) (remains s) (c .before .before .has-name .ensures) (c .before .if2 .left) (c .next-boundary .ensures)
+    let named = c .before .before .has-name .ensures in
+    sought-more (at-loop s .loop .inv) (s .past-index .ensures) (remains s) named (c .before .if2 .left) (c .next-boundary .ensures)
 
 returns-2 : tie.Need-returns-2 Inv-loop μ-loop
 returns-2 c =
     let l = c .before .before in
-    sought-none (l .loop .inv) (rw (reads-of _ _ (l .before .before .header-fields .ensures .0)) (c .if1 .left))
+    sought-none (l .loop .inv) (rw (reads-of _ _ (at-header l .header-fields .ensures .0)) (c .if1 .left))
 
 pub bears-spec : {M : Type 1} → statement M
 bears-spec =

@@ -1,4 +1,5 @@
--- The header's index fields are asked for a rename or a removal.
+-- New clips may be given to a file with an index; for a rename or a removal the header's two fields say whether there
+-- is one.
 use Rattle.sff_format.proofs.HeaderLaws.{fits-31}
 use Rattle.sff_format.proofs.FileLaid.{head-ok}
 use Rattle.sff_header.proofs.Fields.{offset-of, index-length-of}
@@ -16,8 +17,9 @@ header-fields-requires c κs = fits-31 _ (head-ok _ (c .before .before .before .
 returns-2 : tie.Need-returns-2
 returns-2 c room =
     let h = c .before .header-fields .ensures .0 in
-    let d = c .before .before .before .before .before .before in
-    index-told (d .pre) room (c .before .before .if1 .left) (rw (offset-of _ _ h, index-length-of _ _ h) (c .is-declared .ensures))
+    let other-kind = c .before .before in
+    let start = other-kind .before .before .before .before in
+    index-told (start .pre) room (other-kind .if1 .left) (rw (offset-of _ _ h, index-length-of _ _ h) (c .is-declared .ensures))
 
 pub index-present-spec : {M : Type 1} → statement M
 index-present-spec = tie.close (tie.spec returns header-fields-requires (λ c κs. search needs) returns-2)

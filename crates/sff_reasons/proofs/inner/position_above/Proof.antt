@@ -1,9 +1,8 @@
--- The header's count decides.
+-- The header's number of reads is the number of reads that the file is parsed into.
 use native.Mathlib.Omega.{arith}
 use Rattle.sff_format.proofs.HeaderLaws.{fits-31}
 use Rattle.sff_format.proofs.FileLaid.{head-ok}
 use Rattle.sff_reasons.proofs.Told.{above-told, below-told}
-use borrow.Author.Needs.{needs}
 use Rattle.sff_reasons.proofs.inner.position_above.Statement.{statement}
 use Rattle.sff_reasons.proofs.inner.position_above.Tie as tie
 
@@ -12,15 +11,17 @@ get32-requires c κs = let h = fits-31 _ (head-ok _ (c .before .before .pre)) in
 
 returns : tie.Need-returns
 returns c room =
-    let a = c .before .before .before .before .before .args in
-    let e = c .before .before .get32 .ensures .0 in
+    let count = c .before .before in
+    let a = count .before .before .before .args in
+    let e = count .get32 .ensures .0 in
     let h = c .if1 .taken in
     below-told (a .s .now) (a .«record» .now) (a .fields) room (omega arith)
 
 returns-2 : tie.Need-returns-2
 returns-2 c room =
-    let a = c .before .before .before .before .before .args in
-    let e = c .before .before .get32 .ensures .0 in
+    let count = c .before .before in
+    let a = count .before .before .before .args in
+    let e = count .get32 .ensures .0 in
     let h = c .if1 .left in
     above-told (a .s .now) (a .«record» .now) (a .fields) room (omega arith)
 

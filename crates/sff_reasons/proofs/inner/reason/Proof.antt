@@ -10,7 +10,6 @@ use Rattle.sff_correction.specs.Fields.{asked}
 use Rattle.sff_correction.specs.Reasons.{reasonRows, reasons}
 use Rattle.sff_reasons.specs.Found.{Found}
 use Rattle.sff_reasons.proofs.Told.{read-there}
-use borrow.Author.Needs.{needs}
 use Rattle.sff_reasons.proofs.inner.reason.Statement.{statement}
 use Rattle.sff_reasons.proofs.inner.reason.Tie as tie
 
@@ -99,4 +98,17 @@ unfolding reasons firstRow
 returns-6 c = sym (none-24 (c .before .before) ∙ row-not 26 _ [] (sym (c .before .no-room .ensures) ∙ c .if5 .left))
 
 pub reason-spec : {M : Type 1} → statement M
-reason-spec = tie.close (tie.spec other-name-requires returns index-present-requires returns-2 clip-above-requires returns-3 name-borne-requires returns-4 no-room-requires returns-5 returns-6)
+reason-spec =
+    tie.close
+    (tie.spec
+    other-name-requires
+    returns
+    index-present-requires
+    returns-2
+    clip-above-requires
+    returns-3
+    name-borne-requires
+    returns-4
+    no-room-requires
+    returns-5
+    returns-6)

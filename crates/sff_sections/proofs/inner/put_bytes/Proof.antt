@@ -1,3 +1,4 @@
+-- The copy is of the whole source.
 use Rattle.sff_sections.proofs.Pieces.{bytes-put}
 use borrow.Author.Needs.{needs}
 use Rattle.sff_sections.proofs.inner.put_bytes.Statement.{statement}

@@ -1,3 +1,5 @@
+-- Three fields and the format code, each behind the one before it, are the header's fields from 24 on; to store the
+-- code's byte keeps the length.
 use lib.ListN.{length-set}
 use Rattle.sff_sections.proofs.Pieces.{lengths-put}
 use borrow.Author.Needs.{needs}

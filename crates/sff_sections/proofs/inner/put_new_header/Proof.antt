@@ -1,3 +1,4 @@
+-- The fields, the flow characters, the key and zeros, each behind the one before it, are a new file's layout.
 use Rattle.sff_sections.proofs.Sections.{new-put}
 use borrow.Author.Needs.{needs}
 use Rattle.sff_sections.proofs.inner.put_new_header.Statement.{statement}

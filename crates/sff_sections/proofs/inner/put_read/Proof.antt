@@ -1,3 +1,4 @@
+-- The data section stands behind the header section, whose length `up8` gave: together they are the read.
 use Rattle.sff_sections.proofs.Sections.{read-put}
 use borrow.Author.Needs.{needs}
 use Rattle.sff_sections.proofs.inner.put_read.Statement.{statement}

@@ -4,6 +4,10 @@ use borrow.Author.Needs.{needs}
 use Rattle.sff_sections.proofs.inner.put_read_data.Statement.{statement}
 use Rattle.sff_sections.proofs.inner.put_read_data.Tie as tie
 
+-- the start, from the place where the values are put
+abbrev start : tie.After-put-words → tie.Start
+start c = let known = c .before .before .before .before in known .before .before .before
+
 returns : tie.Need-returns
 returns c =
     let padding = c .before .before in
@@ -11,8 +15,9 @@ returns c =
     let bases = qualities .before .before .before .before in
     let increments = bases .before .before .before .before in
     let values = increments .before .before .before .before in
-    let asked = values .before .before .before .before .before .before .before .pre in
-    data-put _ _ _ _ _ _ (asked .1 .0) (asked .1 .1) (values .put-words .ensures) (increments .put-bytes .ensures) (bases .put-bytes2 .ensures) (qualities .put-bytes3 .ensures) (padding .put-padding .ensures) (asked .0)
+    let asked = start values .pre in
+    data-put _ _ _ _ _ _ (asked .1 .0) (asked .1 .1) (values .put-words .ensures) (increments .put-bytes .ensures)
+    (bases .put-bytes2 .ensures) (qualities .put-bytes3 .ensures) (padding .put-padding .ensures) (asked .0)
 
 pub put-read-data-spec : {M : Type 1} → statement M
 put-read-data-spec =

@@ -1,3 +1,4 @@
+-- The fields, the name behind them and zeros behind the name are the header section.
 use Rattle.sff_sections.proofs.Pieces.{head-put}
 use borrow.Author.Needs.{needs}
 use Rattle.sff_sections.proofs.inner.put_read_header.Statement.{statement}

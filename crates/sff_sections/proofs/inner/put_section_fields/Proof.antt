@@ -1,3 +1,4 @@
+-- Three fields and the clips, each behind the one before it, are the fields of a read's header section.
 use Rattle.sff_sections.proofs.Pieces.{section-put}
 use borrow.Author.Needs.{needs}
 use Rattle.sff_sections.proofs.inner.put_section_fields.Statement.{statement}

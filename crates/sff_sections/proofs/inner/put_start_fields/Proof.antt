@@ -1,3 +1,4 @@
+-- Five fields, each behind the one before it, are the header's first 24 bytes.
 use Rattle.sff_sections.proofs.Pieces.{start-put}
 use borrow.Author.Needs.{needs}
 use Rattle.sff_sections.proofs.inner.put_start_fields.Statement.{statement}

@@ -1,3 +1,4 @@
+-- The summary's numbers are the totals of the values over 100, and their sum over 100 times how many there are.
 use Rattle.sff_signal.proofs.Made.{made}
 use borrow.Author.Needs.{needs}
 use Rattle.sff_signal.proofs.inner.values_summary.Statement.{statement}

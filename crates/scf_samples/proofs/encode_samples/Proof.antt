@@ -1,10 +1,10 @@
--- A test that refuses changes nothing; one that accepts leaves whole samples that have room.
-use mathlib.Core.Path.{sym, _∙_}
+-- Where the tests refuse, nothing is written; where they accept, the samples are whole and have room, and level 2's
+-- differences of them are put, as many bytes as the source has.
 use borrow.Author.Needs.{needs}
 use Rattle.filter_format.specs.Samples.{encodeSamples}
 use Rattle.filter_format.proofs.Levels.{length-delta}
-use Rattle.filter_format.proofs.Results.{refused-answer, refused-out, made-answer, made-out}
-use Rattle.scf_samples.proofs.Either.{judged}
+use Rattle.filter_format.proofs.Results.{refused-answer, refused-out}
+use Rattle.scf_samples.proofs.Either.{judged, written}
 use Rattle.scf_samples.proofs.encode_samples.Statement.{statement}
 use Rattle.scf_samples.proofs.encode_samples.Tie as tie
 
@@ -13,15 +13,15 @@ unfolding encodeSamples
 returns c = (search refused-answer, search refused-out)
 
 put-delta-requires : tie.Need-put-delta-requires
-put-delta-requires c κs = judged _ _ _ (sym (c .before .before .before .samples-test .ensures) ∙ c .before .enum-told .given .1)
+put-delta-requires c κs = let ok = c .before in judged _ _ _ (ok .before .before .samples-test .ensures) (ok .enum-told .given .1)
 
 returns-2 : tie.Need-returns-2
 unfolding encodeSamples
 returns-2 c =
-    let e = c .before .before .before .before .before .before .samples-test .ensures in
-    let t = c .before .before .before .before .enum-told .given .1 in
-    let k = judged _ _ _ (sym e ∙ t) in
-    (made-answer e _ t (sym (length-delta _ (k .0 .0) _ (k .1) 2)), search made-out)
+    let k = c .before .before in
+    let ok = k .before .before in
+    written _ _ _ (ok .before .before .samples-test .ensures) (ok .enum-told .given .1)
+    _ _ (λ positive whole. length-delta _ positive _ whole 2) (k .put-delta .ensures)
 
 pub encode-samples-spec : {M : Type 1} → statement M
 encode-samples-spec =

@@ -1,3 +1,4 @@
+-- The filter is one of its cases: for each, the test that is called makes the definition's tests of that case.
 use Prim.Native.Nat.{_≤_}
 use mathlib.Core.Path.{_≡_, sym, ap, _∙_}
 use native.Mathlib.Omega.{arith}
@@ -12,43 +13,48 @@ use Rattle.filter_block.proofs.Tests.{raw-data, follow-data, other-data
 use Rattle.filter_block.proofs.inner.data_test.Statement.{statement}
 use Rattle.filter_block.proofs.inner.data_test.Tie as tie
 
--- the case g that the filter is
-known : (s : tie.Start) {g : Filter} → s .args .filter ≡ g → (Known g) × (headerLength g ≤ length (s .args .block .now))
-known s e = told (s .args .filter) _ (s .args .block .now) e (s .pre)
+-- the start, from where the filter is matched
+abbrev start : tie.After-shared-slice-known → tie.Start
+start m = m .before
 
-tested : (s : tie.Start) {g : Filter} {r : Answer} → s .args .filter ≡ g → r ≡ dataTest g (s .args .room) (s .args .block .now)
-    → r ≡ dataTest (s .args .filter) (s .args .room) (s .args .block .now)
-tested s e h = h ∙ ap (λ (f : Filter). dataTest f (s .args .room) (s .args .block .now)) (sym e)
+-- of the case g that the filter is: what the start knows, and what is to be answered
+known : (m : tie.After-shared-slice-known) {g : Filter} → start m .args .filter ≡ g → (Known g) × (headerLength g ≤ length (start m .args .block .now))
+known m e = let s = start m in told (s .args .filter) _ (s .args .block .now) e (s .pre)
+
+tested : (m : tie.After-shared-slice-known) {g : Filter} {r : Answer} → start m .args .filter ≡ g
+    → r ≡ dataTest g (start m .args .room) (start m .args .block .now)
+    → r ≡ dataTest (start m .args .filter) (start m .args .room) (start m .args .block .now)
+tested m e h = let a = start m .args in h ∙ ap (λ (f : Filter). dataTest f (a .room) (a .block .now)) (sym e)
 
 sub-room-test : tie.Need-sub-room-test
 unfolding headerLength
-sub-room-test c = omega (arith, known (c .before .before .before) (c .enum-told .given .1) .1)
+sub-room-test c = omega (arith, known (c .before .before) (c .enum-told .given .1) .1)
+
+delta-test-requires : tie.Need-delta-test-requires
+delta-test-requires c κs = let d = c .before in known (d .before .before) (d .filter .given .1)
 
 narrow-test-requires : tie.Need-narrow-test-requires
 unfolding headerLength
-narrow-test-requires c κs = let k = known (c .before .before .before .before) (c .before .filter2 .given .1) in (k .0 .0, k .1)
+narrow-test-requires c κs = let d = c .before in let k = known (d .before .before) (d .filter2 .given .1) in (k .0 .0, k .1)
 
 sub-room-test-2 : tie.Need-sub-room-test-2
 unfolding headerLength
-sub-room-test-2 c = omega (arith, known (c .before .before .before) (c .enum-told2 .given .1) .1)
-
-delta-test-requires : tie.Need-delta-test-requires
-delta-test-requires c κs = known (c .before .before .before .before) (c .before .filter .given .1)
+sub-room-test-2 c = omega (arith, known (c .before .before) (c .enum-told2 .given .1) .1)
 
 returns : tie.Need-returns
-returns c = let s = c .before .before .before .before in tested s (c .before .enum-told .given .1) (c .room-test .ensures ∙ raw-data (s .args .room) (s .args .block .now))
+returns c = let d = c .before in tested (d .before .before) (d .enum-told .given .1) (c .room-test .ensures ∙ raw-data _ _)
 
 returns-2 : tie.Need-returns-2
-returns-2 c = tested (c .before .before .before .before .before) (c .before .before .filter .given .1) (c .delta-test .ensures)
+returns-2 c = let d = c .before .before in tested (d .before .before) (d .filter .given .1) (c .delta-test .ensures)
 
 returns-3 : tie.Need-returns-3
-returns-3 c = tested (c .before .before .before .before .before) (c .before .before .filter2 .given .1) (c .narrow-test .ensures)
+returns-3 c = let d = c .before .before in tested (d .before .before) (d .filter2 .given .1) (c .narrow-test .ensures)
 
 returns-4 : tie.Need-returns-4
-returns-4 c = let s = c .before .before .before .before in tested s (c .before .enum-told2 .given .1) (c .room-test2 .ensures ∙ follow-data (s .args .room) (s .args .block .now))
+returns-4 c = let d = c .before in tested (d .before .before) (d .enum-told2 .given .1) (c .room-test2 .ensures ∙ follow-data _ _)
 
 returns-5 : tie.Need-returns-5
-returns-5 c = let s = c .before .before .before in tested s (c .enum-told3 .given .1) (other-data (s .args .room) (s .args .block .now))
+returns-5 c = tested (c .before .before) (c .enum-told3 .given .1) (other-data _ _)
 
 pub data-test-spec : {M : Type 1} → statement M
 data-test-spec =

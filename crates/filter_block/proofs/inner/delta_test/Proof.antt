@@ -1,3 +1,4 @@
+-- The data are what the header leaves of the block: refused where they are not whole units, else by the room's test.
 use Prim.Native.Nat.{ℕ, _-_}
 use mathlib.Core.Path.{_≡_, ap, _∙_}
 use borrow.Author.Needs.{needs}
@@ -9,7 +10,8 @@ use Rattle.filter_block.proofs.inner.delta_test.Statement.{statement}
 use Rattle.filter_block.proofs.inner.delta_test.Tie as tie
 
 -- the length of the data
-long : (c : tie.After-header-length) → let a = c .before .before .args in let b = a .block .now in length b - c .header-length .result ≡ length b - headerLength (Delta (a .w))
+long : (c : tie.After-header-length) → let a = c .before .before .args in
+    length (a .block .now) - c .header-length .result ≡ length (a .block .now) - headerLength (Delta (a .w))
 long c = ap (λ (h : ℕ). length (c .before .before .args .block .now) - h) (c .header-length .ensures .0)
 
 returns : tie.Need-returns

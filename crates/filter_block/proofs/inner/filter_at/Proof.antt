@@ -1,3 +1,4 @@
+-- The format is the block's first byte, or 0 of a block with no bytes, where the definition reads 0 too.
 use mathlib.Core.Path.{ap, _∙_}
 use borrow.Author.Needs.{needs}
 use Rattle.filter_format.specs.Block.{filterOf}

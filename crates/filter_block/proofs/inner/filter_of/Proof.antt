@@ -1,3 +1,4 @@
+-- The formats are compared in the definition's order, and each return gives the filter of the first that is equal.
 use Rattle.answers.proofs.Answers.{tests}
 use Rattle.filter_format.specs.Block.{filterOf}
 use Rattle.filter_block.proofs.inner.filter_of.Statement.{statement}

@@ -1,3 +1,4 @@
+-- The definition, case by case; of a delta, by whether its units have four bytes.
 use mathlib.Core.Path.{refl}
 use native.Mathlib.Omega.{arith}
 use borrow.Author.Tests.{eq-eqb, ne-eqb}

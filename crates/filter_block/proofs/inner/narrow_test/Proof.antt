@@ -1,3 +1,5 @@
+-- The count says either that a unit is cut short, which the definition refuses, or how many units there are: their
+-- bytes are then tested against the room.
 use mathlib.Core.Path.{_≡_, sym, ap, _∙_}
 use borrow.Author.Needs.{needs}
 use lib.ListN.{drop}
@@ -11,13 +13,12 @@ told : (c : tie.After-count-units) → let a = c .before .before .before .args i
 told c = let a = c .before .before .before .args in c .count-units .ensures ∙ ap (counted (a .w)) (part-end 1 (a .block .now))
 
 returns : tie.Need-returns
-returns c = let a = c .before .before .before .before .before .args in narrow-lacking (a .room) (a .block .now) (a .w) (sym (c .enum-told .given .1) ∙ told (c .before .before))
+returns c = narrow-lacking _ _ _ (sym (c .enum-told .given .1) ∙ told (c .before .before))
 
 returns-2 : tie.Need-returns-2
 returns-2 c =
-    let k = c .before .before .before .before in
-    let a = k .before .before .before .args in
-    c .unit-test .ensures ∙ narrow-units (a .room) (a .block .now) (a .w) _ (sym (c .before .before .counted .given .1) ∙ told k)
+    let k = c .before .before in
+    c .unit-test .ensures ∙ narrow-units _ _ _ _ (sym (k .counted .given .1) ∙ told (k .before .before))
 
 pub narrow-test-spec : {M : Type 1} → statement M
 narrow-test-spec =

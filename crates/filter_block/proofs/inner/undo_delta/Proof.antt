@@ -1,25 +1,32 @@
+-- The bytes behind the header are the data, and the level is the header's: the passes undone over them are the
+-- definition's.
 use borrow.Author.Needs.{needs}
 use Rattle.filter_block.proofs.Headers.{level-in}
 use Rattle.filter_block.proofs.Opening.{delta-given, delta-put}
 use Rattle.filter_block.proofs.inner.undo_delta.Statement.{statement}
 use Rattle.filter_block.proofs.inner.undo_delta.Tie as tie
 
+-- the start, from where the header is measured
+abbrev at-header : tie.After-header-length → tie.Start
+at-header h = h .before .before .before
+
 shared-slice-read-wide : tie.Need-shared-slice-read-wide
-shared-slice-read-wide c = let s = c .before .before .before .before in level-in (s .args .w) (s .args .block .now) (s .pre .1)
+shared-slice-read-wide c = let s = at-header (c .before) in level-in (s .args .w) (s .args .block .now) (s .pre .1)
 
 put-undone-requires : tie.Need-put-undone-requires
 put-undone-requires c κs =
     let h = c .before .before .before .before in
-    let s = h .before .before .before in
+    let s = at-header h in
     delta-given (s .args .block .now) (s .args .out .now) (s .args .w) _ (s .pre) (h .header-length .ensures .0)
 
 returns : tie.Need-returns
 returns c =
     let k = c .before .before in
-    let h = k .before .before .before .before .before in
-    let s = h .before .before .before in
-    let level = k .before .before .before .wide .ensures .0 in
-    delta-put (s .args .block .now) (s .args .out .now) (s .args .w) _ (s .pre) (h .header-length .ensures .0) _ (k .put-undone .last .0) level (k .put-undone .ensures)
+    let level = k .before .before .before in
+    let h = level .before .before in
+    let s = at-header h in
+    delta-put (s .args .block .now) (s .args .out .now) (s .args .w) _ (s .pre) (h .header-length .ensures .0)
+    _ (k .put-undone .last .0) (level .wide .ensures .0) (k .put-undone .ensures)
 
 pub undo-delta-spec : {M : Type 1} → statement M
 undo-delta-spec =

@@ -1,3 +1,4 @@
+-- The filter is one of its cases: each case's function asks what the tests left of that case, and puts its promise.
 use Prim.Native.Nat.{ℕ}
 use mathlib.Core.Path.{_≡_}
 use mathlib.Core.List.{List}
@@ -9,40 +10,57 @@ use Rattle.filter_block.proofs.Opening.{Put, opens, put-of, put-other}
 use Rattle.filter_block.proofs.inner.undo_filter.Statement.{statement}
 use Rattle.filter_block.proofs.inner.undo_filter.Tie as tie
 
--- the case g that the filter is
-opened : (s : tie.Start) {g : Filter} → s .args .filter ≡ g → Opens g (s .args .block .now) (length (s .args .out .now))
-opened s e = opens (s .args .filter) _ (s .args .block .now) (length (s .args .out .now)) e (s .pre)
+-- the start, from where the filter is matched
+abbrev start : tie.After-shared-slice-known → tie.Start
+start m = m .before .before
 
-put : (s : tie.Start) {g : Filter} {r : ℕ} {out' : List ℕ} → s .args .filter ≡ g → Put g (s .args .block .now) r (s .args .out .now) out'
-    → Put (s .args .filter) (s .args .block .now) r (s .args .out .now) out'
-put s e p = put-of (s .args .filter) _ (s .args .block .now) _ (s .args .out .now) _ e p
+-- of the case g that the filter is: what the start knows, and what is to be put
+opened : (m : tie.After-shared-slice-known) {g : Filter} → let a = start m .args in
+    a .filter ≡ g → Opens g (a .block .now) (length (a .out .now))
+opened m e = let s = start m in opens (s .args .filter) _ (s .args .block .now) (length (s .args .out .now)) e (s .pre)
+
+put : (m : tie.After-shared-slice-known) {g : Filter} {r : ℕ} {out' : List ℕ} → let a = start m .args in
+    a .filter ≡ g → Put g (a .block .now) r (a .out .now) out' → Put (a .filter) (a .block .now) r (a .out .now) out'
+put m e p = let a = start m .args in put-of (a .filter) _ (a .block .now) _ (a .out .now) _ e p
 
 undo-raw-requires : tie.Need-undo-raw-requires
-undo-raw-requires c κs = opened (c .before .before .before .before .before) (c .before .enum-told .given .1)
+undo-raw-requires c κs = let d = c .before in opened (d .before .before) (d .enum-told .given .1)
 
 undo-delta-requires : tie.Need-undo-delta-requires
-undo-delta-requires c κs = opened (c .before .before .before .before .before .before) (c .before .before .filter .given .1)
+undo-delta-requires c κs = let d = c .before .before in opened (d .before .before) (d .filter .given .1)
 
 undo-narrow-requires : tie.Need-undo-narrow-requires
-undo-narrow-requires c κs = opened (c .before .before .before .before .before .before) (c .before .before .filter2 .given .1)
+undo-narrow-requires c κs = let d = c .before .before in opened (d .before .before) (d .filter2 .given .1)
 
 undo-follow-requires : tie.Need-undo-follow-requires
-undo-follow-requires c κs = opened (c .before .before .before .before .before) (c .before .enum-told2 .given .1)
+undo-follow-requires c κs = let d = c .before in opened (d .before .before) (d .enum-told2 .given .1)
 
 returns : tie.Need-returns
-returns c = let k = c .before .before in put (k .before .before .before .before .before .before) (k .before .before .enum-told .given .1) (k .undo-raw .ensures)
+returns c =
+    let k = c .before .before in
+    let d = k .before .before in
+    put (d .before .before) (d .enum-told .given .1) (k .undo-raw .ensures)
 
 returns-2 : tie.Need-returns-2
-returns-2 c = let k = c .before .before in put (k .before .before .before .before .before .before .before) (k .before .before .before .filter .given .1) (k .undo-delta .ensures)
+returns-2 c =
+    let k = c .before .before in
+    let d = k .before .before .before in
+    put (d .before .before) (d .filter .given .1) (k .undo-delta .ensures)
 
 returns-3 : tie.Need-returns-3
-returns-3 c = let k = c .before .before in put (k .before .before .before .before .before .before .before) (k .before .before .before .filter2 .given .1) (k .undo-narrow .ensures)
+returns-3 c =
+    let k = c .before .before in
+    let d = k .before .before .before in
+    put (d .before .before) (d .filter2 .given .1) (k .undo-narrow .ensures)
 
 returns-4 : tie.Need-returns-4
-returns-4 c = let k = c .before .before in put (k .before .before .before .before .before .before) (k .before .before .enum-told2 .given .1) (k .undo-follow .ensures)
+returns-4 c =
+    let k = c .before .before in
+    let d = k .before .before in
+    put (d .before .before) (d .enum-told2 .given .1) (k .undo-follow .ensures)
 
 returns-5 : tie.Need-returns-5
-returns-5 c = let a = c .before .before .before .before .args in put-other (a .filter) (a .block .now) (a .out .now) (c .enum-told3 .given .1)
+returns-5 c = put-other _ _ _ (c .enum-told3 .given .1)
 
 pub undo-filter-spec : {M : Type 1} → statement M
 undo-filter-spec =

@@ -1,3 +1,4 @@
+-- Bytes 1 to 256 are the follow bytes and the rest the data, as the definition takes them; undone, they are as many.
 use Prim.Native.Nat.{_≤_}
 use native.Mathlib.Omega.{arith}
 use borrow.Author.Needs.{needs}
@@ -6,29 +7,36 @@ use Rattle.filter_block.proofs.Opening.{follow-given, follow-put}
 use Rattle.filter_block.proofs.inner.undo_follow.Statement.{statement}
 use Rattle.filter_block.proofs.inner.undo_follow.Tie as tie
 
-long : (s : tie.Start) → 257 ≤ length (s .args .block .now)
-long s = follow-given (s .args .block .now) (s .args .out .now) (s .pre) .0
+-- the start, from where the first part of the block is lent
+abbrev at-part : tie.After-put-unfollowed-arg → tie.Start
+at-part p = p .before .before .before
+
+long : (p : tie.After-put-unfollowed-arg) → 257 ≤ length (at-part p .args .block .now)
+long p = let s = at-part p in follow-given (s .args .block .now) (s .args .out .now) (s .pre) .0
 
 sub-put-unfollowed : tie.Need-sub-put-unfollowed
-sub-put-unfollowed c = omega (arith, long (c .before .before .before))
+sub-put-unfollowed c = omega (arith, long c)
 
 part-put-unfollowed-start : tie.Need-part-put-unfollowed-start
-part-put-unfollowed-start c = omega (arith, long (c .before .before .before))
+part-put-unfollowed-start c = omega (arith, long c)
 
 part-put-unfollowed-end-2 : tie.Need-part-put-unfollowed-end-2
-part-put-unfollowed-end-2 c = omega (arith, long (c .before .before .before .before))
+part-put-unfollowed-end-2 c = omega (arith, long (c .before))
 
 put-unfollowed-requires : tie.Need-put-unfollowed-requires
-put-unfollowed-requires c κs = let s = c .before .before .before .before .before in let given = follow-given (s .args .block .now) (s .args .out .now) (s .pre) in (given .1, given .2)
+put-unfollowed-requires c κs =
+    let s = at-part (c .before .before) in
+    let given = follow-given (s .args .block .now) (s .args .out .now) (s .pre) in
+    (given .1, given .2)
 
 sub-result : tie.Need-sub-result
-sub-result c = omega (arith, long (c .before .before .before .before .before .before .before .before))
+sub-result c = let k = c .before .before in omega (arith, long (k .before .before .before))
 
 returns : tie.Need-returns
 returns c =
-    let s = c .before .before .before .before .before .before .before .before in
-    let k = c .before .before .put-unfollowed in
-    follow-put (s .args .block .now) (s .args .out .now) (s .pre) (k .last .0) (k .ensures)
+    let k = c .before .before in
+    let s = at-part (k .before .before .before) in
+    follow-put (s .args .block .now) (s .args .out .now) (s .pre) (k .put-unfollowed .last .0) (k .put-unfollowed .ensures)
 
 pub undo-follow-spec : {M : Type 1} → statement M
 undo-follow-spec =

@@ -1,25 +1,31 @@
+-- All but the format byte is widened to the front, which is the definition; the tests left no unit cut short, and room.
 use borrow.Author.Needs.{needs}
 use Rattle.filter_format.specs.Block.{headerLength}
 use Rattle.filter_block.proofs.Opening.{narrow-given, narrow-put}
 use Rattle.filter_block.proofs.inner.undo_narrow.Statement.{statement}
 use Rattle.filter_block.proofs.inner.undo_narrow.Tie as tie
 
+-- the start, from where the part behind the format byte is lent
+abbrev at-part : tie.After-put-widened-arg → tie.Start
+at-part p = p .before .before .before
+
 sub-put-widened : tie.Need-sub-put-widened
 unfolding headerLength
-sub-put-widened c = c .before .before .before .pre .1
+sub-put-widened c = at-part c .pre .1
 
 part-put-widened-start : tie.Need-part-put-widened-start
 unfolding headerLength
-part-put-widened-start c = c .before .before .before .pre .1
+part-put-widened-start c = at-part c .pre .1
 
 put-widened-requires : tie.Need-put-widened-requires
-put-widened-requires c κs = let s = c .before .before .before .before in narrow-given (s .args .block .now) (s .args .out .now) (s .args .w) (s .pre)
+put-widened-requires c κs = search narrow-given
 
 returns : tie.Need-returns
 returns c =
-    let s = c .before .before .before .before .before .before .before in
-    let k = c .before .before .put-widened in
-    narrow-put (s .args .block .now) (s .args .out .now) (s .args .w) (s .pre) (k .result) (k .last .0) (k .ensures .0) (k .ensures .1)
+    let k = c .before .before in
+    let s = at-part (k .before .before) in
+    let made = k .put-widened in
+    narrow-put (s .args .block .now) (s .args .out .now) (s .args .w) (s .pre) (made .result) (made .last .0) (made .ensures .0) (made .ensures .1)
 
 pub undo-narrow-spec : {M : Type 1} → statement M
 undo-narrow-spec =

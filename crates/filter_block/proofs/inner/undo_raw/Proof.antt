@@ -1,3 +1,4 @@
+-- All but the format byte is copied to the front: that is the data, and the block was tested to have room for them.
 use native.Mathlib.Omega.{arith}
 use borrow.Author.Needs.{needs}
 use Rattle.filter_block.proofs.Opening.{raw-fits, raw-put}

@@ -1,3 +1,4 @@
+-- The units are more than the room holds exactly where their bytes are more than the room: then 26, else accepted.
 use borrow.Author.Needs.{needs}
 use Rattle.answers.proofs.Chains.{refusal, onward}
 use Rattle.filter_block.proofs.Tests.{units-over, units-fit}

@@ -1,3 +1,4 @@
+-- A unit of 1, 2 or 4 bytes: the branch that is taken says which, and reads a number of that many bytes.
 use native.Mathlib.Omega.{arith}
 use borrow.Author.Needs.{needs}
 use Rattle.filter_units.proofs.Widths.{got, got-one}

@@ -1,23 +1,31 @@
+-- A unit of 1, 2 or 4 bytes: the branch that is taken says which, and puts the number's that many low bytes.
+use mathlib.Core.Path.{_≡_}
 use native.Mathlib.Omega.{arith}
 use borrow.Author.Needs.{needs}
 use Rattle.filter_units.proofs.Widths.{put, put-one}
 use Rattle.filter_units.proofs.inner.put_unit.Statement.{statement}
 use Rattle.filter_units.proofs.inner.put_unit.Tie as tie
 
+-- a width that is neither 1 nor 2
+width-4 : (c : tie.Else2) → c .before .before .before .args .w ≡ 4
+width-4 c = omega arith
+
 returns : tie.Need-returns
 returns c = let a = c .before .before .args in put-one (a .s .now) (a .at) (a .w) (a .v) (c .if1 .taken) (omega arith)
 
 returns-2 : tie.Need-returns-2
 returns-2 c =
-    let a = c .before .before .before .before .before .before .before .args in
-    let r = c .before .before .put16 in
-    put (a .s .now) (a .at) (a .w) 2 (a .v) (r .last .0) (c .before .before .before .before .if2 .taken) (r .ensures)
+    let k = c .before .before in
+    let two = k .before .before in
+    let a = two .before .before .before .args in
+    put (a .s .now) (a .at) (a .w) 2 (a .v) (k .put16 .last .0) (two .if2 .taken) (k .put16 .ensures)
 
 returns-3 : tie.Need-returns-3
 returns-3 c =
-    let a = c .before .before .before .before .before .before .before .args in
-    let r = c .before .before .put32 in
-    put (a .s .now) (a .at) (a .w) 4 (a .v) (r .last .0) (omega arith) (r .ensures)
+    let k = c .before .before in
+    let four = k .before .before in
+    let a = four .before .before .before .args in
+    put (a .s .now) (a .at) (a .w) 4 (a .v) (k .put32 .last .0) (width-4 four) (k .put32 .ensures)
 
 pub put-unit-spec : {M : Type 1} → statement M
 put-unit-spec =

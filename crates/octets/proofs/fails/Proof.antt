@@ -12,13 +12,13 @@ Inv-loop test s n failed₀ j₀ failed j = Told (passes test) s j failed
 abbrev μ-loop : tie.MeasureT-loop
 μ-loop test s n failed₀ j₀ failed j = length s - j
 
-loop-holds : tie.Need-loop-holds
+loop-holds : tie.Need-loop-holds Inv-loop μ-loop
 loop-holds c = search (told-start, needs)
 
-loop-again : tie.Need-loop-again
+loop-again : tie.Need-loop-again Inv-loop μ-loop
 loop-again c = search (told-more, needs)
 
-returns : tie.Need-returns
+returns : tie.Need-returns Inv-loop μ-loop
 returns c = search (told-all, needs)
 
 pub fails-spec : {M : Type 1} → statement M

@@ -19,34 +19,34 @@ loop-again c =
     do-turn (a .args .w) (a .args .s .now) (l .p) (l .left) (l .at) (l .s) (a .pre .0) (l .inv) (omega arith)
     (x .result) (v .result) (k .last .0) (x .ensures .0) (x .ensures .1) (v .ensures) (k .ensures)
 
-div-left : tie.Need-div-left
+div-left : tie.Need-div-left Inv-loop μ-loop
 div-left c = search passes
 
-loop-holds : tie.Need-loop-holds
+loop-holds : tie.Need-loop-holds Inv-loop μ-loop
 loop-holds c = search passes
 
-get-unit-requires : tie.Need-get-unit-requires
+get-unit-requires : tie.Need-get-unit-requires Inv-loop μ-loop
 get-unit-requires c κs = search passes
 
-wrapping-sub-u32-requires : tie.Need-wrapping-sub-u32-requires
+wrapping-sub-u32-requires : tie.Need-wrapping-sub-u32-requires Inv-loop μ-loop
 wrapping-sub-u32-requires c κs = search passes
 
-put-unit-requires : tie.Need-put-unit-requires
+put-unit-requires : tie.Need-put-unit-requires Inv-loop μ-loop
 put-unit-requires c κs = search passes
 
-add-at : tie.Need-add-at
+add-at : tie.Need-add-at Inv-loop μ-loop
 add-at c = search passes
 
-sub-left : tie.Need-sub-left
+sub-left : tie.Need-sub-left Inv-loop μ-loop
 sub-left c = search passes
 
-loop-less : tie.Need-loop-less
+loop-less : tie.Need-loop-less Inv-loop μ-loop
 loop-less c = search passes
 
-same-length : tie.Need-same-length
+same-length : tie.Need-same-length Inv-loop μ-loop
 same-length c = search passes
 
-returns : tie.Need-returns
+returns : tie.Need-returns Inv-loop μ-loop
 returns c = search passes
 
 pub do-pass-spec : {M : Type 1} → statement M

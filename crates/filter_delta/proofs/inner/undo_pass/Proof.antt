@@ -25,31 +25,31 @@ returns c =
     let l = c .before .loop in
     undo-done (a .args .w) (a .args .s .now) (l .p) (l .left) (l .at) (l .s) (l .inv) (omega arith) (a .pre .0 .0)
 
-div-left : tie.Need-div-left
+div-left : tie.Need-div-left Inv-loop μ-loop
 div-left c = search passes
 
-loop-holds : tie.Need-loop-holds
+loop-holds : tie.Need-loop-holds Inv-loop μ-loop
 loop-holds c = search passes
 
-get-unit-requires : tie.Need-get-unit-requires
+get-unit-requires : tie.Need-get-unit-requires Inv-loop μ-loop
 get-unit-requires c κs = search passes
 
-wrapping-add-u32-requires : tie.Need-wrapping-add-u32-requires
+wrapping-add-u32-requires : tie.Need-wrapping-add-u32-requires Inv-loop μ-loop
 wrapping-add-u32-requires c κs = search passes
 
-put-unit-requires : tie.Need-put-unit-requires
+put-unit-requires : tie.Need-put-unit-requires Inv-loop μ-loop
 put-unit-requires c κs = search passes
 
-add-at : tie.Need-add-at
+add-at : tie.Need-add-at Inv-loop μ-loop
 add-at c = search passes
 
-sub-left : tie.Need-sub-left
+sub-left : tie.Need-sub-left Inv-loop μ-loop
 sub-left c = search passes
 
-loop-less : tie.Need-loop-less
+loop-less : tie.Need-loop-less Inv-loop μ-loop
 loop-less c = search passes
 
-same-length : tie.Need-same-length
+same-length : tie.Need-same-length Inv-loop μ-loop
 same-length c = search passes
 
 pub undo-pass-spec : {M : Type 1} → statement M

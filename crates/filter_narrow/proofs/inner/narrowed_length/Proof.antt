@@ -9,34 +9,34 @@ Inv-loop source w from₀ left₀ size₀ from left size = Measuring w from left
 abbrev μ-loop : tie.MeasureT-loop
 μ-loop source w from₀ left₀ size₀ from left size = left
 
-div-left : tie.Need-div-left
+div-left : tie.Need-div-left Inv-loop μ-loop
 div-left c = omega arith
 
-loop-holds : tie.Need-loop-holds
+loop-holds : tie.Need-loop-holds Inv-loop μ-loop
 loop-holds c = let a = c .before in measuring-start (a .args .w) (a .args .source .now) (a .pre .1) (a .pre .2)
 
-get-unit-requires : tie.Need-get-unit-requires
+get-unit-requires : tie.Need-get-unit-requires Inv-loop μ-loop
 get-unit-requires c κs = (c .before .before .before .pre .0, remaining-within (c .before .loop .inv .units) (c .loop-test .taken))
 
-narrow-length-requires : tie.Need-narrow-length-requires
+narrow-length-requires : tie.Need-narrow-length-requires Inv-loop μ-loop
 narrow-length-requires c κs = c .before .before .before .before .pre .0
 
-add-size : tie.Need-add-size
+add-size : tie.Need-add-size Inv-loop μ-loop
 add-size c = omega (arith, measuring-few (c .before .before .before .loop .inv))
 
-add-from : tie.Need-add-from
+add-from : tie.Need-add-from Inv-loop μ-loop
 add-from c = omega (arith, remaining-within (c .before .before .before .loop .inv .units) (c .before .before .loop-test .taken))
 
-sub-left : tie.Need-sub-left
+sub-left : tie.Need-sub-left Inv-loop μ-loop
 sub-left c = omega arith
 
-loop-less : tie.Need-loop-less
+loop-less : tie.Need-loop-less Inv-loop μ-loop
 loop-less c = omega arith
 
-loop-again : tie.Need-loop-again
+loop-again : tie.Need-loop-again Inv-loop μ-loop
 loop-again c = let u = c .before .get-unit in let n = c .narrow-length in measuring-more (c .before .before .before .loop .inv) (c .before .before .loop-test .taken) (u .result) (n .result) (u .ensures .0) (n .ensures .0) (n .ensures .1)
 
-returns : tie.Need-returns
+returns : tie.Need-returns Inv-loop μ-loop
 returns c = measuring-done (c .before .loop .inv) (omega arith)
 
 pub narrowed-length-spec : {M : Type 1} → statement M

@@ -23,34 +23,34 @@ long c = widening-long (c .before .before .before .loop .inv) (c .before .before
 short : (c : tie.Else1 Inv-loop μ-loop) → let a = c .before .before .before .before .before .before .args in let i = c .before .before .before .loop .from in Turn (a .w) i (i + 1) (bytesOf (a .w) (extended (a .w) (getD (a .source .now) i 0))) (a .source .now)
 short c = let a = c .before .before .before .before .before .before .args in short-turn (a .w) (c .before .before .before .loop .from) (a .source .now) (c .before .before .loop-test .taken) (c .if1 .left)
 
-loop-holds : tie.Need-loop-holds
+loop-holds : tie.Need-loop-holds Inv-loop μ-loop
 loop-holds c = let a = c .before .before in widening-start (a .args .w) (a .args .source .now) (a .args .out .now) (a .pre .1) (a .pre .2)
 
-shared-slice-read-c : tie.Need-shared-slice-read-c
+shared-slice-read-c : tie.Need-shared-slice-read-c Inv-loop μ-loop
 shared-slice-read-c c = omega arith
 
-add-get-unit : tie.Need-add-get-unit
+add-get-unit : tie.Need-add-get-unit Inv-loop μ-loop
 add-get-unit c = omega arith
 
-get-unit-requires : tie.Need-get-unit-requires
+get-unit-requires : tie.Need-get-unit-requires Inv-loop μ-loop
 get-unit-requires c κs = (c .before .before .before .before .before .before .before .pre .0, omega (arith, long (c .before) .within))
 
-put-unit-requires : tie.Need-put-unit-requires
+put-unit-requires : tie.Need-put-unit-requires Inv-loop μ-loop
 put-unit-requires c κs = (c .before .before .before .before .before .before .before .before .pre .0, widening-room (c .before .before .before .before .before .loop .inv) (long (c .before .before)) .2)
 
-add-from : tie.Need-add-from
+add-from : tie.Need-add-from Inv-loop μ-loop
 add-from c = omega (arith, widening-room (c .before .before .before .before .before .before .before .before .loop .inv) (long (c .before .before .before .before .before)))
 
-add-from-2 : tie.Need-add-from-2
+add-from-2 : tie.Need-add-from-2 Inv-loop μ-loop
 add-from-2 c = omega (arith, widening-room (c .before .before .before .before .before .before .before .before .loop .inv) (long (c .before .before .before .before .before)))
 
-add-to : tie.Need-add-to
+add-to : tie.Need-add-to Inv-loop μ-loop
 add-to c = omega (arith, widening-room (c .before .before .before .before .before .before .before .before .loop .inv) (long (c .before .before .before .before .before)))
 
-loop-less : tie.Need-loop-less
+loop-less : tie.Need-loop-less Inv-loop μ-loop
 loop-less c = omega (arith, widening-room (c .before .before .before .before .before .before .before .before .loop .inv) (long (c .before .before .before .before .before)))
 
-loop-again : tie.Need-loop-again
+loop-again : tie.Need-loop-again Inv-loop μ-loop
 loop-again c =
     let a = c .before .before .before .before .before .before .before .before .before .before .before .args in
     let l = c .before .before .before .before .before .before .before .before .loop in
@@ -60,19 +60,19 @@ loop-again c =
     let bytes = bytes-of (a .source .now) (λ i. c .before .before .before .before .before .before .shared-slice-known2 .given i .fits) in
     widening-more (l .inv) t (u .result) (k .last .0) (long-bytes (a .w) (l .from + 1) (u .result) (a .source .now) bytes (omega (arith, t .within)) (u .ensures .0)) (k .ensures)
 
-put-unit-requires-2 : tie.Need-put-unit-requires-2
+put-unit-requires-2 : tie.Need-put-unit-requires-2 Inv-loop μ-loop
 put-unit-requires-2 c κs = (c .before .before .before .before .before .before .before .before .pre .0, widening-room (c .before .before .before .before .before .loop .inv) (short (c .before .before)) .2)
 
-add-from-3 : tie.Need-add-from-3
+add-from-3 : tie.Need-add-from-3 Inv-loop μ-loop
 add-from-3 c = omega (arith, widening-room (c .before .before .before .before .before .before .before .before .loop .inv) (short (c .before .before .before .before .before)))
 
-add-to-2 : tie.Need-add-to-2
+add-to-2 : tie.Need-add-to-2 Inv-loop μ-loop
 add-to-2 c = omega (arith, widening-room (c .before .before .before .before .before .before .before .before .loop .inv) (short (c .before .before .before .before .before)))
 
-loop-less-2 : tie.Need-loop-less-2
+loop-less-2 : tie.Need-loop-less-2 Inv-loop μ-loop
 loop-less-2 c = omega (arith, widening-room (c .before .before .before .before .before .before .before .before .loop .inv) (short (c .before .before .before .before .before)))
 
-loop-again-2 : tie.Need-loop-again-2
+loop-again-2 : tie.Need-loop-again-2 Inv-loop μ-loop
 loop-again-2 c =
     let a = c .before .before .before .before .before .before .before .before .before .before .before in
     let l = c .before .before .before .before .before .before .before .before .loop in
@@ -81,10 +81,10 @@ loop-again-2 c =
     let byte = c .before .before .before .before .before .before .shared-slice-known2 .given (l .from) .fits in
     widening-more (l .inv) (short (c .before .before .before .before .before)) (u .result) (k .last .0) (short-bytes (a .args .w) (getD (a .args .source .now) (l .from) 0) (u .result) (a .pre .0) byte (u .ensures)) (k .ensures)
 
-same-length : tie.Need-same-length
+same-length : tie.Need-same-length Inv-loop μ-loop
 same-length c = widening-same (c .before .loop .inv)
 
-returns : tie.Need-returns
+returns : tie.Need-returns Inv-loop μ-loop
 returns c = widening-done (c .before .loop .inv) (c .loop-test .left)
 
 pub put-widened-spec : {M : Type 1} → statement M

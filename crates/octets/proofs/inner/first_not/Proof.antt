@@ -11,37 +11,37 @@ Inv-loop test s from to n j₀ j = Seen (passes test) from n s j
 abbrev μ-loop : tie.MeasureT-loop
 μ-loop test s from to n j₀ j = n - j
 
-sub-n : tie.Need-sub-n
+sub-n : tie.Need-sub-n Inv-loop μ-loop
 sub-n c = search scan
 
-loop-holds : tie.Need-loop-holds
+loop-holds : tie.Need-loop-holds Inv-loop μ-loop
 loop-holds c = seen-start _ _ _ _ (omega arith)
 
-add-passes-test : tie.Need-add-passes-test
+add-passes-test : tie.Need-add-passes-test Inv-loop μ-loop
 add-passes-test c = search scan
 
-shared-slice-read-passes-test : tie.Need-shared-slice-read-passes-test
+shared-slice-read-passes-test : tie.Need-shared-slice-read-passes-test Inv-loop μ-loop
 shared-slice-read-passes-test c = search scan
 
-passes-test-requires : tie.Need-passes-test-requires
+passes-test-requires : tie.Need-passes-test-requires Inv-loop μ-loop
 passes-test-requires c κs = search scan
 
-add-result : tie.Need-add-result
+add-result : tie.Need-add-result Inv-loop μ-loop
 add-result c = search scan
 
-add-j : tie.Need-add-j
+add-j : tie.Need-add-j Inv-loop μ-loop
 add-j c = search scan
 
-loop-less : tie.Need-loop-less
+loop-less : tie.Need-loop-less Inv-loop μ-loop
 loop-less c = search scan
 
-loop-again : tie.Need-loop-again
+loop-again : tie.Need-loop-again Inv-loop μ-loop
 loop-again c = search scan
 
-returns : tie.Need-returns
+returns : tie.Need-returns Inv-loop μ-loop
 returns c = seen-end (c .before .loop .inv) (omega arith) (c .if1 .taken)
 
-returns-2 : tie.Need-returns-2
+returns-2 : tie.Need-returns-2 Inv-loop μ-loop
 returns-2 c = seen-stop (c .before .before .before .before .loop .inv) (omega arith) (omega arith) (c .before .passes-test .ensures) (c .if2 .taken)
 
 pub first-not-spec : {M : Type 1} → statement M

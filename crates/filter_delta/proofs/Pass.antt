@@ -84,45 +84,49 @@ difference-seen m p x v d hp hx e =
     let k : (v + p) % m ≡ x = sym (mod-mod-of-dvd m (v + p) (dvd-of-mod-eq-zero m d)) ∙ ap (λ (n : ℕ). n % m) e ∙ mod-eq-of-lt hx in
     sym (ap (λ (n : ℕ). (n + (m - p)) % m) (sym k) ∙ mod-add-mod (v + p) m (m - p) ∙ ap (λ (n : ℕ). n % m) (omega arith) ∙ add-mod-right v m)
 
--- the pass that undoes: the code's p is the sum at 32 bits
-abbrev pub Undoing : ℕ → ℕ → ℕ → ℕ → List ℕ → List ℕ → Type 0
-Undoing w p left at s₀ s = Mid (sum (range w)) (sum (range w)) w (p % range w) left at s₀ s (undeltaBytes w 1 s₀)
+-- the pass that takes a level off: the code's p is the sum at 32 bits
+pub record Undoing (w p left at : ℕ) (s₀ s : List ℕ) : Type 0 where
+  pub width : IsWidth w
+  pub mid : Mid (sum (range w)) (sum (range w)) w (p % range w) left at s₀ s (undeltaBytes w 1 s₀)
 
--- the pass that does: p is the unit before
-abbrev pub Doing : ℕ → ℕ → ℕ → ℕ → List ℕ → List ℕ → Type 0
-Doing w p left at s₀ s = Mid (difference (range w)) latest w p left at s₀ s (deltaBytes w 1 s₀) × (p < range w)
+-- the pass that puts a level on: p is the unit before
+pub record Doing (w p left at : ℕ) (s₀ s : List ℕ) : Type 0 where
+  pub width : IsWidth w
+  pub below : p < range w
+  pub mid : Mid (difference (range w)) latest w p left at s₀ s (deltaBytes w 1 s₀)
 
-module _ (w : ℕ) (s₀ : List ℕ) where
-  pub undo-start : length s₀ % w ≡ 0 → Undoing w 0 (length s₀ / w) 0 s₀ s₀
+module _ (w : ℕ) (s₀ : List ℕ) (width : IsWidth w) (whole : length s₀ % w ≡ 0) where
+  pub undo-start : Undoing w 0 (length s₀ / w) 0 s₀ s₀
   unfolding undeltaBytes undeltas
-  undo-start whole = rw (zero-mod (range w)) (start (sum (range w)) (sum (range w)) w 0 s₀ whole)
+  undo-start = record { width = width; mid = rw (zero-mod (range w)) (start (sum (range w)) (sum (range w)) w 0 s₀ whole) }
 
-  pub do-start : length s₀ % w ≡ 0 → Doing w 0 (length s₀ / w) 0 s₀ s₀
+  pub do-start : Doing w 0 (length s₀ / w) 0 s₀ s₀
   unfolding deltaBytes deltas
-  do-start whole = (start (difference (range w)) latest w 0 s₀ whole, range-positive w)
+  do-start = record { width = width; below = range-positive w; mid = start (difference (range w)) latest w 0 s₀ whole }
 
-  module _ (p left at : ℕ) (s : List ℕ) where
-    pub undo-turn : IsWidth w → Undoing w p left at s₀ s → 0 < left → (x v : ℕ) (s' : List ℕ) → x ≡ number w at s → v ≡ (p + x) % 2 ^ 32
-        → s' ≡ putAt at (bytesOf w v) s → Undoing w v (left - 1) (at + w) s₀ s'
-    undo-turn i m h x v s' ex ev es =
-        let r : ℕ = range w in
-        let seen : v % r ≡ sum r (p % r) x = sum-seen r p x v (divides w i) ev in
-        turn (sum r) (sum r) w (p % r) (v % r) left at x v s₀ s s' (undeltaBytes w 1 s₀) m h ex es seen seen
+module _ {w p left at : ℕ} {s₀ s : List ℕ} where
+  -- the unit x is read, and v is put
+  pub undo-turn : Undoing w p left at s₀ s → 0 < left → {x v : ℕ} {s' : List ℕ} → x ≡ number w at s → v ≡ (p + x) % 2 ^ 32
+      → s' ≡ putAt at (bytesOf w v) s → Undoing w v (left - 1) (at + w) s₀ s'
+  undo-turn m h {x} {v} {s'} ex ev es =
+      let r : ℕ = range w in
+      let seen : v % r ≡ sum r (p % r) x = sum-seen r p x v (divides w (m .width)) ev in
+      record { width = m .width; mid = turn (sum r) (sum r) w (p % r) (v % r) left at x v s₀ s s' (undeltaBytes w 1 s₀) (m .mid) h ex es seen seen }
 
-    pub do-turn : IsWidth w → Doing w p left at s₀ s → 0 < left → (x v : ℕ) (s' : List ℕ) → x ≡ number w at s → x < range w → (v + p) % 2 ^ 32 ≡ x
-        → s' ≡ putAt at (bytesOf w v) s → Doing w x (left - 1) (at + w) s₀ s'
-    do-turn i m h x v s' ex hx ev es =
-        let r : ℕ = range w in
-        let seen : v % r ≡ difference r p x = difference-seen r p x v (divides w i) (m .1) hx ev in
-        (turn (difference r) latest w p x left at x v s₀ s s' (deltaBytes w 1 s₀) (m .0) h ex es seen refl, hx)
+  pub do-turn : Doing w p left at s₀ s → 0 < left → {x : ℕ} (v : ℕ) {s' : List ℕ} → x ≡ number w at s → x < range w → (v + p) % 2 ^ 32 ≡ x
+      → s' ≡ putAt at (bytesOf w v) s → Doing w x (left - 1) (at + w) s₀ s'
+  do-turn m h {x} v {s'} ex hx ev es =
+      let r : ℕ = range w in
+      let seen : v % r ≡ difference r p x = difference-seen r p x v (divides w (m .width)) (m .below) hx ev in
+      record { width = m .width; below = hx; mid = turn (difference r) latest w p x left at x v s₀ s s' (deltaBytes w 1 s₀) (m .mid) h ex es seen refl }
 
-    pub undo-done : Undoing w p left at s₀ s → left ≤ 0 → 0 < w → (s ≡ undeltaBytes w 1 s₀) × OneLevelLess w s₀ s
-    undo-done m h positive =
-        let e : s ≡ undeltaBytes w 1 s₀ = done (sum (range w)) (sum (range w)) w (p % range w) left at s₀ s (undeltaBytes w 1 s₀) m h in
-        (e, rw e (one-level-less w positive s₀))
+  pub undo-done : Undoing w p left at s₀ s → left ≤ 0 → (s ≡ undeltaBytes w 1 s₀) × OneLevelLess w s₀ s
+  undo-done m h =
+      let e : s ≡ undeltaBytes w 1 s₀ = done (sum (range w)) (sum (range w)) w (p % range w) left at s₀ s (undeltaBytes w 1 s₀) (m .mid) h in
+      (e, rw e (one-level-less w (m .width .0) s₀))
 
-    pub do-done : Doing w p left at s₀ s → left ≤ 0 → s ≡ deltaBytes w 1 s₀
-    do-done m h = done (difference (range w)) latest w p left at s₀ s (deltaBytes w 1 s₀) (m .0) h
+  pub do-done : Doing w p left at s₀ s → left ≤ 0 → s ≡ deltaBytes w 1 s₀
+  do-done m h = done (difference (range w)) latest w p left at s₀ s (deltaBytes w 1 s₀) (m .mid) h
 
--- what `search` needs for all but a turn
-pub ruleset passes = (undo-start, do-start, do-done, next-fits, needs)
+-- what `search` needs for all but a turn and the end
+pub ruleset passes = (undo-start, do-start, next-fits, needs)

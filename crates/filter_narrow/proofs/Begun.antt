@@ -33,7 +33,8 @@ length-widen-by : (w c : ℕ) (s : List ℕ) → Dec (c ≡ 128) → lacking w 0
 length-widen-by w c s (yes q) e short long =
     rw (widen-long w c s q, begun-long w c s q, suc-mul (begun w w s) w) (long (sym (lacking-long w c s q) ∙ e) ∙ omega arith)
 length-widen-by w c s (no q) e short long =
-    rw (widen-short w c s q, begun-short w c s q, suc-mul (begun w 0 s) w, length-append (bytesOf w (extended w c)) (widen w 0 s), length-bytesOf w (extended w c))
+    let u : List ℕ = bytesOf w (extended w c) in
+    rw (widen-short w c s q, begun-short w c s q, suc-mul (begun w 0 s) w, length-append u (widen w 0 s), length-bytesOf w (extended w c))
     (ap (λ (n : ℕ). w + n) (short (sym (lacking-short w c s q) ∙ e)) ∙ omega arith)
 
 length-widen : (w k : ℕ) (s : List ℕ) → lacking w k s ≡ 0 → length (widen w k s) ≡ k + begun w k s * w

@@ -25,7 +25,8 @@ module _ (w u : ℕ) {t : Bool} (e : t ≡ fitsOne w u) where
   unfolding narrowUnit
   narrow-one f = go (leb u 127) (leb (least w) u) refl (sym e ∙ f)
     where
-      go : (a b : Bool) → leb u 127 ≡ a → (a || b) ≡ true → cond a (u ∷ []) (cond b (u % 256 ∷ []) (128 ∷ bytesOf w u)) ≡ u % 256 ∷ []
+      go : (a b : Bool) → leb u 127 ≡ a → (a || b) ≡ true
+          → cond a (u ∷ []) (cond b (u % 256 ∷ []) (128 ∷ bytesOf w u)) ≡ u % 256 ∷ []
       go true b h o = let small = leb-true u 127 h in ap (λ (x : ℕ). x ∷ []) (let q : u ≡ u % 256 = omega arith in q)
       go false true h o = refl
       go false false h o = cc
@@ -49,10 +50,12 @@ module _ (w u : ℕ) {t : Bool} (e : t ≡ fitsOne w u) where
     pub put-one : t ≡ true → set out at (u % 256) ≡ putAt at (narrowUnit w u) out
     put-one f = rw (narrow-one f) (put-sets (u % 256 ∷ []) out at (omega (arith, length-one f, room)))
 
-    pub put-whole : t ≡ false → (out′ : List ℕ) → out′ ≡ putAt (at + 1) (bytesOf w u) (set out at 128) → out′ ≡ putAt at (narrowUnit w u) out
+    pub put-whole : t ≡ false → (out′ : List ℕ) → out′ ≡ putAt (at + 1) (bytesOf w u) (set out at 128)
+        → out′ ≡ putAt at (narrowUnit w u) out
     put-whole f out′ d =
         let h : at + 1 ≤ length out = omega (arith, length-whole f, room) in
-        d ∙ rw (narrow-whole f) (ap (λ (l : List ℕ). putAt (at + 1) (bytesOf w u) l) (put-sets (128 ∷ []) out at h) ∙ put-put at (128 ∷ []) (bytesOf w u) out h)
+        let first = ap (λ (l : List ℕ). putAt (at + 1) (bytesOf w u) l) (put-sets (128 ∷ []) out at h) in
+        d ∙ rw (narrow-whole f) (first ∙ put-put at (128 ∷ []) (bytesOf w u) out h)
 
 -- `left` units are to come, from place `from` on, of data in whole units
 pub record Remaining (w from left : ℕ) (s : List ℕ) : Type 0 where
@@ -68,7 +71,8 @@ module _ {w from left : ℕ} {s : List ℕ} (m : Remaining w from left s) (some 
   remaining-more : Remaining w (from + w) (left - 1) s
   remaining-more = record { exact = omega (arith, split, m .exact) }
 
-  remaining-first : (u : ℕ) → u ≡ number w from s → narrow w (unitsAt w left from s) ≡ narrowUnit w u ++ narrow w (unitsAt w (left - 1) (from + w) s)
+  remaining-first : (u : ℕ) → u ≡ number w from s
+      → narrow w (unitsAt w left from s) ≡ narrowUnit w u ++ narrow w (unitsAt w (left - 1) (from + w) s)
   unfolding unitsAt narrow
   remaining-first u e = let n : left ≡ suc (left - 1) = omega arith in ap (λ (k : ℕ). narrow w (unitsAt w k from s)) n ∙ rw e
 
@@ -93,7 +97,8 @@ module _ {w from left size : ℕ} {s : List ℕ} (m : Measuring w from left size
   pub measuring-few : 2 * size ≤ 3 * length s
   measuring-few = omega (arith, m .few, m .units .exact)
 
-  pub measuring-more : 0 < left → (u n : ℕ) → u ≡ number w from s → n ≡ length (narrowUnit w u) → n ≤ w + 1 → Measuring w (from + w) (left - 1) (size + n) s
+  pub measuring-more : 0 < left → (u n : ℕ) → u ≡ number w from s → n ≡ length (narrowUnit w u) → n ≤ w + 1
+      → Measuring w (from + w) (left - 1) (size + n) s
   measuring-more some u n e l h =
       let k = ap length (remaining-first (m .units) some u e) ∙ length-append (narrowUnit w u) (narrow w (unitsAt w (left - 1) (from + w) s)) in
       record { units = remaining-more (m .units) some; sum = omega (arith, m .sum, k, l); few = omega (arith, m .few, m .wide, h); wide = m .wide }
@@ -106,7 +111,8 @@ pub record Narrowing (w at from left to : ℕ) (s out₀ out : List ℕ) : Type 
   pub units : Remaining w from left s
   pub filling : Filling at to (narrow w (unitsAt w left from s)) (narrow w (unitsOf w s)) out₀ out
 
-pub narrowing-start : (w at : ℕ) (s out : List ℕ) → length s % w ≡ 0 → at + length (narrow w (unitsOf w s)) ≤ length out → Narrowing w at 0 (length s / w) at s out out
+pub narrowing-start : (w at : ℕ) (s out : List ℕ) → length s % w ≡ 0 → at + length (narrow w (unitsOf w s)) ≤ length out
+    → Narrowing w at 0 (length s / w) at s out out
 narrowing-start w at s out e h = record { units = remaining-start w s e; filling = filling-start at (narrow w (unitsOf w s)) out h }
 
 module _ {w at from left to : ℕ} {s out₀ out : List ℕ} (m : Narrowing w at from left to s out₀ out) where
@@ -114,13 +120,17 @@ module _ {w at from left to : ℕ} {s out₀ out : List ℕ} (m : Narrowing w at
   narrowing-same = filling-same (m .filling)
 
   module _ (some : 0 < left) (u : ℕ) (e : u ≡ number w from s) where
-    pub narrowing-room : to + length (narrowUnit w u) ≤ length out
-    narrowing-room = filling-room (m .filling) (narrowUnit w u) (narrow w (unitsAt w (left - 1) (from + w) s)) (remaining-first (m .units) some u e)
+    abbrev to-come : List ℕ
+    to-come = narrow w (unitsAt w (left - 1) (from + w) s)
 
-    pub narrowing-more : (next : ℕ) (out′ : List ℕ) → next ≡ to + length (narrowUnit w u) → out′ ≡ putAt to (narrowUnit w u) out → Narrowing w at (from + w) (left - 1) next s out₀ out′
+    pub narrowing-room : to + length (narrowUnit w u) ≤ length out
+    narrowing-room = filling-room (m .filling) (narrowUnit w u) to-come (remaining-first (m .units) some u e)
+
+    pub narrowing-more : (next : ℕ) (out′ : List ℕ) → next ≡ to + length (narrowUnit w u) → out′ ≡ putAt to (narrowUnit w u) out
+        → Narrowing w at (from + w) (left - 1) next s out₀ out′
     narrowing-more next out′ n d = record {
       units = remaining-more (m .units) some;
-      filling = filling-more (m .filling) (narrowUnit w u) (narrow w (unitsAt w (left - 1) (from + w) s)) (remaining-first (m .units) some u e) next out′ n d;
+      filling = filling-more (m .filling) (narrowUnit w u) to-come (remaining-first (m .units) some u e) next out′ n d;
     }
 
   pub narrowing-done : left ≤ 0 → out ≡ putAt at (narrow w (unitsOf w s)) out₀

@@ -1,3 +1,4 @@
+-- Each arm of the match makes the test that the definition has for that variant.
 use borrow.Author.Needs.{needs}
 use Rattle.octets.proofs.passes_test.Statement.{statement}
 use Rattle.octets.proofs.passes_test.Tie as tie

@@ -1,40 +1,49 @@
+-- Each pass puts one level on: the levels left, put on what stands, come to all the levels put on the data.
 use native.Mathlib.Omega.{arith}
 use borrow.Author.Needs.{needs}
 use Rattle.octets.proofs.AllBytes.{bytes-of}
 use Rattle.filter_format.specs.Delta.{deltaBytes}
-use Rattle.filter_delta.proofs.Loop.{Levels, levels-start, do-more, do-last}
+use Rattle.filter_delta.proofs.Transform.{put-on}
+use Rattle.filter_delta.proofs.Loop.{Levels, levels-start, levels-more, levels-done}
 use Rattle.filter_delta.proofs.inner.do_levels.Statement.{statement}
 use Rattle.filter_delta.proofs.inner.do_levels.Tie as tie
 
 abbrev Inv-loop : tie.InvT-loop
-Inv-loop s₀ w level left₀ s left = Levels (deltaBytes w) level left s₀ s
+Inv-loop s₀ w level left₀ s left = Levels w (deltaBytes w) level left s₀ s
 
 abbrev μ-loop : tie.MeasureT-loop
 μ-loop s₀ w level left₀ s left = left
 
 loop-holds : tie.Need-loop-holds Inv-loop μ-loop
 loop-holds c =
-    let a = c .before .args in
-    levels-start (deltaBytes (a .w)) (a .level) (a .s .now) (bytes-of (a .s .now) (λ i. c .slice-known .given i .fits))
+    let b = c .before in
+    let a = b .args in
+    levels-start (put-on (a .w) (b .pre .0)) (a .level) (a .s .now) (b .pre .1) (bytes-of (a .s .now) (λ i. c .slice-known .given i .fits))
 
 do-pass-requires : tie.Need-do-pass-requires Inv-loop μ-loop
-do-pass-requires c κs =
-    let a = c .before .before .before .before in
-    (a .pre .0, rw (c .before .before .loop .inv .same) (a .pre .1))
+do-pass-requires c κs = let l = c .before .before .loop .inv in (l .transform .width, l .whole)
 
 loop-again : tie.Need-loop-again Inv-loop μ-loop
 loop-again c =
-    let a = c .before .before .before .before .before .before .before in
-    let l = c .before .before .before .before .before .loop in
-    let k = c .before .before .do-pass in
-    do-more (a .args .w) (a .args .level) (l .to-do) (a .args .s .now) (l .s) (a .pre .0 .0) (k .last .0) (l .inv) (omega arith) (k .ensures)
-    (k .kept .0) (bytes-of (k .last .0) (λ i. c .slice-known2 .given i .fits))
+    let p = c .before .before in
+    let k = p .do-pass in
+    let t = p .before .before in
+    let bytes = bytes-of (k .last .0) (λ i. c .slice-known2 .given i .fits) in
+    levels-more (t .before .loop .inv) (t .loop-test .taken) (k .ensures) (k .kept .0) bytes
 
 returns : tie.Need-returns Inv-loop μ-loop
-returns c =
-    let a = c .before .before .before in
-    let l = c .before .loop in
-    do-last (a .args .w) (a .args .level) (l .to-do) (a .args .s .now) (l .s) (a .pre .0 .0) (a .pre .1) (l .inv) (omega arith)
+returns c = levels-done (c .before .loop .inv) (c .loop-test .left)
 
 pub do-levels-spec : {M : Type 1} → statement M
-do-levels-spec = tie.close (tie.spec Inv-loop μ-loop loop-holds do-pass-requires (λ c. search needs) (λ c. search needs) loop-again (λ c. search needs) returns)
+do-levels-spec =
+    tie.close
+    (tie.spec
+    Inv-loop
+    μ-loop
+    loop-holds
+    do-pass-requires
+    (λ c. search needs)
+    (λ c. search needs)
+    loop-again
+    (λ c. search needs)
+    returns)

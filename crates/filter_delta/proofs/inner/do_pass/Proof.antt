@@ -1,5 +1,7 @@
-use native.Mathlib.Omega.{arith}
-use Rattle.filter_delta.proofs.Pass.{Doing, do-turn, passes}
+-- Each turn puts one unit less the one before it: what is made and the differences of the units to come are together those of
+-- all the units.
+use Rattle.filter_delta.proofs.Pass.{Doing, do-turn, do-done, passes}
+use borrow.Author.Needs.{needs}
 use Rattle.filter_delta.proofs.inner.do_pass.Statement.{statement}
 use Rattle.filter_delta.proofs.inner.do_pass.Tie as tie
 
@@ -9,45 +11,26 @@ Inv-loop s₀ w at₀ left₀ p₀ s at left p = Doing w p left at s₀ s
 abbrev μ-loop : tie.MeasureT-loop
 μ-loop s₀ w at₀ left₀ p₀ s at left p = left
 
-loop-again : tie.Need-loop-again Inv-loop μ-loop
-loop-again c =
-    let a = c .before .before .before .before .before .before .before .before .before .before in
-    let l = c .before .before .before .before .before .before .before .before .loop in
-    let x = c .before .before .before .before .before .get-unit in
-    let v = c .before .before .before .wrapping-sub-u32 in
-    let k = c .before .before .put-unit in
-    do-turn (a .args .w) (a .args .s .now) (l .p) (l .left) (l .at) (l .s) (a .pre .0) (l .inv) (omega arith)
-    (x .result) (v .result) (k .last .0) (x .ensures .0) (x .ensures .1) (v .ensures) (k .ensures)
-
-div-left : tie.Need-div-left Inv-loop μ-loop
-div-left c = search passes
-
 loop-holds : tie.Need-loop-holds Inv-loop μ-loop
 loop-holds c = search passes
 
 get-unit-requires : tie.Need-get-unit-requires Inv-loop μ-loop
 get-unit-requires c κs = search passes
 
-wrapping-sub-u32-requires : tie.Need-wrapping-sub-u32-requires Inv-loop μ-loop
-wrapping-sub-u32-requires c κs = search passes
-
 put-unit-requires : tie.Need-put-unit-requires Inv-loop μ-loop
 put-unit-requires c κs = search passes
 
-add-at : tie.Need-add-at Inv-loop μ-loop
-add-at c = search passes
-
-sub-left : tie.Need-sub-left Inv-loop μ-loop
-sub-left c = search passes
-
-loop-less : tie.Need-loop-less Inv-loop μ-loop
-loop-less c = search passes
-
-same-length : tie.Need-same-length Inv-loop μ-loop
-same-length c = search passes
+loop-again : tie.Need-loop-again Inv-loop μ-loop
+loop-again c =
+    let k = c .before .before in
+    let v = k .before .wrapping-sub-u32 in
+    let u = k .before .before .before in
+    let x = u .get-unit in
+    let t = u .before .before in
+    do-turn (t .before .loop .inv) (t .loop-test .taken) (v .result) (x .ensures .0) (x .ensures .1) (v .ensures) (k .put-unit .ensures)
 
 returns : tie.Need-returns Inv-loop μ-loop
-returns c = search passes
+returns c = do-done (c .before .loop .inv) (c .loop-test .left)
 
 pub do-pass-spec : {M : Type 1} → statement M
 do-pass-spec =
@@ -55,14 +38,14 @@ do-pass-spec =
     (tie.spec
     Inv-loop
     μ-loop
-    div-left
+    (λ c. search needs)
     loop-holds
     get-unit-requires
-    wrapping-sub-u32-requires
+    (λ c κs. search needs)
     put-unit-requires
-    add-at
-    sub-left
-    loop-less
+    (λ c. search needs)
+    (λ c. search needs)
+    (λ c. search needs)
     loop-again
-    same-length
+    (λ c. search needs)
     returns)

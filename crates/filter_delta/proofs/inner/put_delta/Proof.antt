@@ -1,23 +1,24 @@
+-- After the copy the data stand at `at`, and that part is lent to `do_levels`: when it is back, the data stand there with all
+-- levels on, and the rest of the buffer is as it was.
 use borrow.Author.Needs.{needs}
-use Rattle.filter_format.specs.Delta.{deltaBytes}
-use Rattle.filter_format.proofs.Levels.{length-delta}
-use Rattle.filter_delta.proofs.Lent.{lent-whole, given-back}
+use Rattle.filter_delta.proofs.Transform.{put-on}
+use Rattle.filter_delta.proofs.Lent.{Copied, lent-whole, given-back}
 use Rattle.filter_delta.proofs.inner.put_delta.Statement.{statement}
 use Rattle.filter_delta.proofs.inner.put_delta.Tie as tie
 
+copied : (c : tie.After-copy) → let a = c .before .before .before .before .args in
+    Copied (a .w) (a .at) (a .source .now) (a .out .now) (c .copy .last .0)
+copied c = let p = c .before .before .before .before .pre in record { whole = p .1; room = p .2; is = c .copy .ensures }
+
 do-levels-requires : tie.Need-do-levels-requires
-do-levels-requires c κs =
-    let a = c .before .before .before .before .before .before .before in
-    let k = c .before .before .before .copy in
-    (a .pre .0, lent-whole (a .args .at) (a .args .source .now) (a .args .out .now) (k .last .0) (a .pre .2) (k .ensures) (a .args .w) (a .pre .1))
+do-levels-requires c κs = let k = c .before .before .before in (k .before .before .before .before .pre .0, lent-whole (copied k))
 
 returns : tie.Need-returns
 returns c =
-    let a = c .before .before .before .before .before .before .before .before .before .before in
-    let k = c .before .before .before .before .before .before .copy in
-    let d = c .before .before .do-levels in
-    given-back (a .args .at) (a .args .source .now) (a .args .out .now) (k .last .0) (a .pre .2) (k .ensures) (deltaBytes (a .args .w) (a .args .level)) (d .last .0) (d .ensures)
-    (length-delta (a .args .w) (a .pre .0 .0) (a .args .source .now) (a .pre .1) (a .args .level))
+    let d = c .before .before in
+    let k = d .before .before .before .before in
+    let s = k .before .before .before .before in
+    given-back (copied k) (put-on (s .args .w) (s .pre .0)) (s .args .level) (d .do-levels .ensures)
 
 pub put-delta-spec : {M : Type 1} → statement M
 put-delta-spec =

@@ -1,3 +1,4 @@
+-- The two tests are those of the definition, the second with what `least` gives.
 use borrow.Author.Needs.{needs}
 use Rattle.filter_narrow.proofs.inner.fits_one.Statement.{statement}
 use Rattle.filter_narrow.proofs.inner.fits_one.Tie as tie

@@ -1,3 +1,4 @@
+-- The test says which of the two forms the unit has, and each has its length: one byte, or w and the byte 128 before them.
 use mathlib.Core.Path.{sym}
 use native.Mathlib.Omega.{arith}
 use Rattle.filter_narrow.proofs.Units.{length-one, length-whole}
@@ -6,10 +7,14 @@ use Rattle.filter_narrow.proofs.inner.narrow_length.Statement.{statemen
 use Rattle.filter_narrow.proofs.inner.narrow_length.Tie as tie
 
 returns : tie.Need-returns
-returns c = let a = c .before .before .args in (sym (length-one (a .w) (a .u) (c .before .fits-one .ensures) (c .if1 .taken)), omega arith)
+returns c =
+    let a = c .before .before .args in
+    (sym (length-one (a .w) (a .u) (c .before .fits-one .ensures) (c .if1 .taken)), omega arith)
 
 returns-2 : tie.Need-returns-2
-returns-2 c = let a = c .before .before .args in (sym (length-whole (a .w) (a .u) (c .before .fits-one .ensures) (c .if1 .left)), omega arith)
+returns-2 c =
+    let a = c .before .before .args in
+    (sym (length-whole (a .w) (a .u) (c .before .fits-one .ensures) (c .if1 .left)), omega arith)
 
 pub narrow-length-spec : {M : Type 1} → statement M
 narrow-length-spec =

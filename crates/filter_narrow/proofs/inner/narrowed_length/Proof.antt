@@ -1,5 +1,8 @@
+-- Each turn adds one unit's length: the sum and the length of the units to come are together the length of all. A unit of w bytes,
+-- two at least, takes at most w + 1, so that the sum stays within one and a half times the data.
 use native.Mathlib.Omega.{arith}
 use Rattle.filter_narrow.proofs.Units.{Measuring, measuring-start, measuring-few, measuring-more, measuring-done, remaining-within}
+use borrow.Author.Needs.{needs}
 use Rattle.filter_narrow.proofs.inner.narrowed_length.Statement.{statement}
 use Rattle.filter_narrow.proofs.inner.narrowed_length.Tie as tie
 
@@ -8,9 +11,6 @@ Inv-loop source w from₀ left₀ size₀ from left size = Measuring w from left
 
 abbrev μ-loop : tie.MeasureT-loop
 μ-loop source w from₀ left₀ size₀ from left size = left
-
-div-left : tie.Need-div-left Inv-loop μ-loop
-div-left c = omega arith
 
 loop-holds : tie.Need-loop-holds Inv-loop μ-loop
 loop-holds c = let a = c .before in measuring-start (a .args .w) (a .args .source .now) (a .pre .1) (a .pre .2)
@@ -25,16 +25,14 @@ add-size : tie.Need-add-size Inv-loop μ-loop
 add-size c = omega (arith, measuring-few (c .before .before .before .loop .inv))
 
 add-from : tie.Need-add-from Inv-loop μ-loop
-add-from c = omega (arith, remaining-within (c .before .before .before .loop .inv .units) (c .before .before .loop-test .taken))
-
-sub-left : tie.Need-sub-left Inv-loop μ-loop
-sub-left c = omega arith
-
-loop-less : tie.Need-loop-less Inv-loop μ-loop
-loop-less c = omega arith
+add-from c = let t = c .before .before in omega (arith, remaining-within (t .before .loop .inv .units) (t .loop-test .taken))
 
 loop-again : tie.Need-loop-again Inv-loop μ-loop
-loop-again c = let u = c .before .get-unit in let n = c .narrow-length in measuring-more (c .before .before .before .loop .inv) (c .before .before .loop-test .taken) (u .result) (n .result) (u .ensures .0) (n .ensures .0) (n .ensures .1)
+loop-again c =
+    let t = c .before .before in
+    let u = c .before .get-unit in
+    let n = c .narrow-length in
+    measuring-more (t .before .loop .inv) (t .loop-test .taken) (u .result) (n .result) (u .ensures .0) (n .ensures .0) (n .ensures .1)
 
 returns : tie.Need-returns Inv-loop μ-loop
 returns c = measuring-done (c .before .loop .inv) (omega arith)
@@ -45,13 +43,13 @@ narrowed-length-spec =
     (tie.spec
     Inv-loop
     μ-loop
-    div-left
+    (λ c. search needs)
     loop-holds
     get-unit-requires
     narrow-length-requires
     add-size
     add-from
-    sub-left
-    loop-less
+    (λ c. search needs)
+    (λ c. search needs)
     loop-again
     returns)

@@ -1,5 +1,8 @@
+-- Each turn puts one unit more: what is put and the units to come, narrowed, are together all the units, narrowed.
 use native.Mathlib.Omega.{arith}
-use Rattle.filter_narrow.proofs.Units.{Narrowing, narrowing-start, narrowing-same, narrowing-room, narrowing-more, narrowing-done, remaining-within}
+use Rattle.filter_narrow.proofs.Units.{Narrowing, narrowing-start, narrowing-same, narrowing-room, narrowing-more, narrowing-done}
+use Rattle.filter_narrow.proofs.Units.{remaining-within}
+use borrow.Author.Needs.{needs}
 use Rattle.filter_narrow.proofs.inner.put_narrowed.Statement.{statement}
 use Rattle.filter_narrow.proofs.inner.put_narrowed.Tie as tie
 
@@ -9,32 +12,37 @@ Inv-loop out₀ at source w from₀ left₀ to₀ out from left to = Narrowing w
 abbrev μ-loop : tie.MeasureT-loop
 μ-loop out₀ at source w from₀ left₀ to₀ out from left to = left
 
-div-left : tie.Need-div-left Inv-loop μ-loop
-div-left c = omega arith
+-- the loop's turn, from the place where its unit is read
+abbrev at-turn : tie.After-get-unit Inv-loop μ-loop → tie.In-loop Inv-loop μ-loop
+at-turn c = c .before .before
 
 loop-holds : tie.Need-loop-holds Inv-loop μ-loop
-loop-holds c = let a = c .before .before in narrowing-start (a .args .w) (a .args .at) (a .args .source .now) (a .args .out .now) (a .pre .1) (a .pre .2)
+loop-holds c =
+    let a = c .before .before in
+    narrowing-start (a .args .w) (a .args .at) (a .args .source .now) (a .args .out .now) (a .pre .1) (a .pre .2)
 
 get-unit-requires : tie.Need-get-unit-requires Inv-loop μ-loop
-get-unit-requires c κs = (c .before .before .before .before .before .pre .0, remaining-within (c .before .before .loop .inv .units) (c .before .loop-test .taken))
+get-unit-requires c κs =
+    let t = c .before in
+    (t .before .before .before .before .pre .0, remaining-within (t .before .loop .inv .units) (t .loop-test .taken))
 
 put-narrow-requires : tie.Need-put-narrow-requires Inv-loop μ-loop
-put-narrow-requires c κs = (c .before .before .before .before .before .before .pre .0, narrowing-room (c .before .before .before .loop .inv) (c .before .before .loop-test .taken) (c .get-unit .result) (c .get-unit .ensures .0))
+put-narrow-requires c κs =
+    let t = at-turn c in
+    let u = c .get-unit in
+    (t .before .before .before .before .pre .0, narrowing-room (t .before .loop .inv) (t .loop-test .taken) (u .result) (u .ensures .0))
 
 add-from : tie.Need-add-from Inv-loop μ-loop
-add-from c = omega (arith, remaining-within (c .before .before .before .before .before .before .loop .inv .units) (c .before .before .before .before .before .loop-test .taken))
-
-sub-left : tie.Need-sub-left Inv-loop μ-loop
-sub-left c = omega arith
-
-loop-less : tie.Need-loop-less Inv-loop μ-loop
-loop-less c = omega arith
+add-from c =
+    let t = at-turn (c .before .before .before) in
+    omega (arith, remaining-within (t .before .loop .inv .units) (t .loop-test .taken))
 
 loop-again : tie.Need-loop-again Inv-loop μ-loop
 loop-again c =
+    let t = at-turn (c .before .before .before) in
     let u = c .before .before .before .get-unit in
     let k = c .before .before .put-narrow in
-    narrowing-more (c .before .before .before .before .before .before .loop .inv) (c .before .before .before .before .before .loop-test .taken) (u .result) (u .ensures .0) (k .result) (k .last .0) (k .ensures .0) (k .ensures .1)
+    narrowing-more (t .before .loop .inv) (t .loop-test .taken) (u .result) (u .ensures .0) (k .result) (k .last .0) (k .ensures .0) (k .ensures .1)
 
 same-length : tie.Need-same-length Inv-loop μ-loop
 same-length c = narrowing-same (c .before .loop .inv)
@@ -48,13 +56,13 @@ put-narrowed-spec =
     (tie.spec
     Inv-loop
     μ-loop
-    div-left
+    (λ c. search needs)
     loop-holds
     get-unit-requires
     put-narrow-requires
     add-from
-    sub-left
-    loop-less
+    (λ c. search needs)
+    (λ c. search needs)
     loop-again
     same-length
     returns)

@@ -1,3 +1,4 @@
+-- The number of eight bytes is that of the first four by 2 to the 32nd and that of the last four.
 use native.Mathlib.Omega.{arith}
 use Rattle.octets.proofs.Digits.{number-split}
 use borrow.Author.Needs.{needs}

@@ -1,6 +1,6 @@
 -- The header's fields by name, and what the first group of tests shows. Assumes nothing.
-use Prim.Native.Nat.{ℕ, _+_, _<_}
-use mathlib.Core.Path.{_≡_}
+use Prim.Native.Nat.{ℕ, _+_, _≤_, _<_}
+use mathlib.Core.Path.{_≡_, sym, _∙_}
 use mathlib.Core.Bool.{true, false, not}
 use mathlib.Core.List.{List}
 use lib.Dec.{ltb, eqb}
@@ -16,8 +16,13 @@ use Rattle.answers.proofs.Answers.{second-ok, same-ok}
 use Rattle.answers.proofs.Chains.{differ, same}
 use Rattle.sff_format.specs.Rules.{badIndex}
 use Rattle.sff_format.specs.HeaderTest.{indexOffset, indexLength, readCount, headerLength, keyLength, flows, charactersEnd, fixedTest, charactersTest, headerTest}
+use Rattle.sff_format.proofs.HeaderLaws.{fits-31}
 use Rattle.sff_header.specs.declared.Header.{Header}
 use Rattle.sff_header.specs.Header.{headerOf}
+
+-- a file whose header is accepted has the header's 31 bytes
+pub tested-31 : (b : List ℕ) {x : Answer} → x ≡ headerTest b → x ≡ Accepted → 31 ≤ length b
+tested-31 b e t = fits-31 b (sym e ∙ t)
 
 module _ (h : Header) (b : List ℕ) (e : h ≡ headerOf b) where
   pub offset-of : indexOffset b ≡ h .«index_offset»
@@ -44,10 +49,10 @@ module _ (h : Header) (b : List ℕ) (e : h ≡ headerOf b) where
   unfolding headerOf
   flows-of = rw e
 
-  -- what 5 asks
-  pub length-good : fixedTest b ≡ Accepted → h .length ≡ up8 (31 + h .flows + h .«key_length»)
+  -- what 5 asks, where the first tests accepted
+  pub length-good : {x : Answer} → x ≡ fixedTest b → x ≡ Accepted → h .length ≡ up8 (31 + h .flows + h .«key_length»)
   unfolding fixedTest headerOf
-  length-good t = rw e (same-ok _ _ _ _ (second-ok _ _ (second-ok _ _ (second-ok _ _ t))))
+  length-good f t = rw e (same-ok _ _ _ _ (second-ok _ _ (second-ok _ _ (second-ok _ _ (sym f ∙ t)))))
 
 -- a field of one byte, as the code reads it
 module _ (b : List ℕ) (at y : ℕ) (fits : at < length b) where

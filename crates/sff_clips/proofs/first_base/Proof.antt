@@ -1,4 +1,4 @@
--- The greatest of 1 and both lefts.
+-- The two calls promise the greatest of 1 and both left clips, as `firstBase` has it.
 use Rattle.sff_format.specs.Insert.{firstBase}
 use borrow.Author.Needs.{needs}
 use Rattle.sff_clips.proofs.first_base.Statement.{statement}

@@ -1,4 +1,4 @@
--- The least of both right ends.
+-- The calls promise the least of what both right clips leave, as `lastBase` has it.
 use Rattle.sff_format.specs.Insert.{lastBase}
 use borrow.Author.Needs.{needs}
 use Rattle.sff_clips.proofs.last_base.Statement.{statement}

@@ -1,3 +1,4 @@
+-- The code asks whether the clip is 0, as `rightEnd` does, and gives what it gives in either case.
 use Rattle.sff_format.specs.Insert.{rightEnd}
 use Rattle.answers.proofs.Answers.{tests}
 use Rattle.sff_clips.proofs.right_end.Statement.{statement}

@@ -1,3 +1,4 @@
+-- The two calls promise `declared` and `badIndexLength`, and the code joins them as `badIndex` does.
 use Rattle.sff_format.specs.Rules.{badIndex}
 use borrow.Author.Needs.{needs}
 use Rattle.sff_header.proofs.bad_index.Statement.{statement}

@@ -1,3 +1,4 @@
+-- The code's expression is the one that `badIndexLength` stands for.
 use mathlib.Core.Path.{refl}
 use Rattle.sff_format.specs.Rules.{badIndexLength}
 use Rattle.sff_header.proofs.bad_index_length.Statement.{statement}

@@ -1,4 +1,5 @@
--- The tests in their order, each on what the scan before it answered.
+-- Each `return` follows one test that refuses and others before it that accepted: `charactersTest` is the chain of
+-- them, said of the fields that the code has read (`characters-tested`).
 use Rattle.answers.proofs.Chains.{refusal, onward}
 use Rattle.sff_header.proofs.Fields.{characters-tested}
 use borrow.Author.Needs.{needs}

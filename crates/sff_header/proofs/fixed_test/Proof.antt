@@ -1,4 +1,5 @@
--- The tests in their order, each by the number that the call before it gave.
+-- Each `return` follows one test that refuses and others before it that accepted: `fixedTest` is the chain of them.
+-- The calls gave the numbers that it compares.
 use Rattle.answers.proofs.Chains.{refusal, onward}
 use Rattle.sff_format.specs.HeaderTest.{fixedTest}
 use Rattle.sff_header.proofs.Fields.{byte-differs, byte-is, length-differs, length-is}
@@ -7,22 +8,26 @@ use Rattle.sff_header.proofs.fixed_test.Statement.{statement}
 use Rattle.sff_header.proofs.fixed_test.Tie as tie
 
 returns : tie.Need-returns
+unfolding fixedTest
 returns c = search refusal
 
 returns-2 : tie.Need-returns-2
+unfolding fixedTest
 returns-2 c = search refusal
 
 returns-3 : tie.Need-returns-3
+unfolding fixedTest
 returns-3 c = search (refusal, byte-differs)
 
 returns-4 : tie.Need-returns-4
+unfolding fixedTest
 returns-4 c = search (refusal, byte-is, length-differs)
 
 returns-5 : tie.Need-returns-5
+unfolding fixedTest
 returns-5 c = search (onward, byte-is, length-is)
 
 pub fixed-test-spec : {M : Type 1} → statement M
-unfolding fixedTest
 fixed-test-spec =
     tie.close
     (tie.spec

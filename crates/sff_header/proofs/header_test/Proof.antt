@@ -1,5 +1,5 @@
--- The tests in their order, each by what the call before it gave.
-use mathlib.Core.Path.{sym, _∙_}
+-- Each `return` follows one test that refuses and others before it that accepted: `headerTest` is the chain of them,
+-- said of the length that stands in the fields (`header-tested`).
 use Rattle.answers.proofs.Chains.{refusal, onward}
 use Rattle.sff_format.specs.HeaderTest.{headerTest}
 use Rattle.sff_header.proofs.Fields.{length-good, header-tested}
@@ -18,11 +18,7 @@ returns-3 : tie.Need-returns-3
 returns-3 c = search (refusal, header-tested)
 
 characters-test-requires : tie.Need-characters-test-requires
-characters-test-requires c κs =
-    let d = c .before .before in
-    let f = d .before .before in
-    let e = f .before .header-fields .ensures in
-    (e .0, (e .1, (length-good (f .before .header-fields .result) _ (e .0) (sym (f .fixed-test .ensures) ∙ d .enum-told .given .1), search needs)))
+characters-test-requires c κs = search (length-good, needs)
 
 returns-4 : tie.Need-returns-4
 returns-4 c = search (onward, header-tested)

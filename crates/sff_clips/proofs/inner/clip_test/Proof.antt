@@ -1,4 +1,5 @@
--- Each clip against its limit as the calls gave it, in file order.
+-- Each `return` follows one clip that is above its limit and others before it that are not: `clipTest` is the chain of
+-- them in file order. The calls gave the limits.
 use Rattle.answers.proofs.Chains.{refusal, onward}
 use Rattle.sff_format.specs.ReadTest.{clipTest}
 use borrow.Author.Needs.{needs}
@@ -6,22 +7,26 @@ use Rattle.sff_clips.proofs.inner.clip_test.Statement.{statement}
 use Rattle.sff_clips.proofs.inner.clip_test.Tie as tie
 
 returns : tie.Need-returns
+unfolding clipTest
 returns c = search refusal
 
 returns-2 : tie.Need-returns-2
+unfolding clipTest
 returns-2 c = search refusal
 
 returns-3 : tie.Need-returns-3
+unfolding clipTest
 returns-3 c = search refusal
 
 returns-4 : tie.Need-returns-4
+unfolding clipTest
 returns-4 c = search refusal depth 9
 
 returns-5 : tie.Need-returns-5
+unfolding clipTest
 returns-5 c = search onward depth 9
 
 pub clip-test-spec : {M : Type 1} → statement M
-unfolding clipTest
 clip-test-spec =
     tie.close
     (tie.spec

@@ -9,15 +9,28 @@ use Rattle.sff_clips.proofs.inner.insert_stretch.Statement.{statement}
 use Rattle.sff_clips.proofs.inner.insert_stretch.Tie as tie
 
 sub-before : tie.Need-sub-before
-sub-before c = let v = c .before .before .args .view in let o = first-least (v .«quality_left») (v .«adapter_left») in omega arith
+sub-before c =
+    let view = c .before .before .args .view in
+    let o = first-least (view .«quality_left») (view .«adapter_left») in
+    omega arith
 
 returns : tie.Need-returns
 returns c =
-    let l = c .before in
-    let f = l .before .before in
-    let o = first-least (f .before .args .view .«quality_left») (f .before .args .view .«adapter_left») in
-    let n : (c .greatest .result) - (f .first-base .result .0 - 1) ≡ suc (l .last-base .result .0) - (f .first-base .result .0) = omega arith in
-    rw (n, f .first-base .ensures, l .last-base .ensures)
+    let last = c .before in
+    let first = last .before .before in
+    let view = first .before .args .view in
+    let o = first-least (view .«quality_left») (view .«adapter_left») in
+    let before = first .first-base .result .0 - 1 in
+    let n : c .greatest .result - before ≡ suc (last .last-base .result .0) - first .first-base .result .0 = omega arith in
+    rw (n, first .first-base .ensures, last .last-base .ensures)
 
 pub insert-stretch-spec : {M : Type 1} → statement M
-insert-stretch-spec = tie.close (tie.spec (λ c κs. search needs) sub-before (λ c κs. search needs) (λ c κs. search needs) (λ c. search needs) returns)
+insert-stretch-spec =
+    tie.close
+    (tie.spec
+    (λ c κs. search needs)
+    sub-before
+    (λ c κs. search needs)
+    (λ c κs. search needs)
+    (λ c. search needs)
+    returns)

@@ -1,3 +1,4 @@
+-- The number of bases is given back as it is, which is what `leftLimit` allows.
 use Rattle.sff_format.specs.Rules.{leftLimit}
 use borrow.Author.Needs.{needs}
 use Rattle.sff_clips.proofs.inner.left_limit.Statement.{statement}

@@ -1,3 +1,4 @@
+-- The number of bases is given back as it is, which is what `rightLimit` allows.
 use Rattle.sff_format.specs.Rules.{rightLimit}
 use borrow.Author.Needs.{needs}
 use Rattle.sff_clips.proofs.inner.right_limit.Statement.{statement}

@@ -1,3 +1,4 @@
+-- The code's expression is the one that `indexSize` stands for.
 use mathlib.Core.Path.{refl}
 use Rattle.sff_format.specs.Rules.{indexSize}
 use Rattle.sff_header.proofs.inner.index_size.Statement.{statement}

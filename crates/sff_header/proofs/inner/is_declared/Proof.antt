@@ -1,3 +1,4 @@
+-- The code's expression is the one that `declared` stands for.
 use mathlib.Core.Path.{refl}
 use Rattle.sff_format.specs.Rules.{declared}
 use Rattle.sff_header.proofs.inner.is_declared.Statement.{statement}

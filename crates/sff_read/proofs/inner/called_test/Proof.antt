@@ -1,19 +1,32 @@
+-- The three parts handed to `bases_test` are the characters, increments and bases of the definition. Its answer stands
+-- where it accepts; a refusal's place counts from the first increment, so that one's place is added, as `shifted` does.
 use Rattle.sff_read.proofs.ReadLaws.{called-all, called-stop, called-in}
 use borrow.Author.Needs.{needs}
 use Rattle.sff_read.proofs.inner.called_test.Statement.{statement}
 use Rattle.sff_read.proofs.inner.called_test.Tie as tie
 
-returns : tie.Need-returns
-returns c = let a = c .before .before .before .before .before .before .before .args in called-all (a .s .now) (a .flows) (a .at) (a .bases) (c .before .before .bases-test .ensures) (c .enum-told .given .1)
+-- the start, from where the three parts are made
+abbrev at-parts : tie.After-bases-test-arg → tie.Start
+at-parts c = c .before .before .before .before
 
+returns : tie.Need-returns
+returns c = search called-all
+
+-- a refusal's place lies in the file
 add-t13 : tie.Need-add-t13
 add-t13 c =
-    let a = c .before .before .before .before .before .before .before .before .args in
-    let h = called-in (a .s .now) (a .flows) (a .at) (a .bases) (c .before .before .before .bases-test .ensures) (c .before .called .given .1) (c .before .before .before .before .before .before .before .before .pre .0) in
+    let tested = c .before .before .before in
+    let d = at-parts (tested .before) in
+    let a = d .args in
+    let e = tested .bases-test .ensures in
+    let h = called-in (a .s .now) (a .flows) (a .at) (a .bases) e (c .before .called .given .1) (d .pre .0) in
     search needs
 
 returns-2 : tie.Need-returns-2
-returns-2 c = let a = c .before .before .before .before .before .before .before .before .args in called-stop (a .s .now) (a .flows) (a .at) (a .bases) (c .before .before .before .bases-test .ensures) (c .before .called .given .1)
+returns-2 c =
+    let tested = c .before .before .before in
+    let a = at-parts (tested .before) .args in
+    called-stop (a .s .now) (a .flows) (a .at) (a .bases) (tested .bases-test .ensures) (c .before .called .given .1)
 
 pub called-test-spec : {M : Type 1} → statement M
 called-test-spec =

@@ -1,4 +1,5 @@
--- The tests in their order, each on what the call before it answered.
+-- Each `return` follows one test that refuses and others before it that accepted: `dataTest` is the chain of them, over
+-- the padded length that `up8` gave and the flow characters as they stand in the file (`data-tested`).
 use Rattle.answers.proofs.Chains.{refusal, onward}
 use Rattle.sff_read.proofs.ReadLaws.{data-tested}
 use borrow.Author.Needs.{needs}

@@ -1,4 +1,5 @@
--- The tests in their order, each on what the call before it answered.
+-- Each `return` follows one test that refuses and others before it that accepted: `nameTest` is the chain of them, over
+-- the padded length and the scans' places as the calls gave them.
 use Rattle.answers.proofs.Chains.{refusal, onward}
 use Rattle.sff_format.specs.ReadTest.{nameTest}
 use borrow.Author.Needs.{needs}
@@ -6,22 +7,26 @@ use Rattle.sff_read.proofs.inner.name_test.Statement.{statement}
 use Rattle.sff_read.proofs.inner.name_test.Tie as tie
 
 returns : tie.Need-returns
+unfolding nameTest
 returns c = search refusal
 
 returns-2 : tie.Need-returns-2
+unfolding nameTest
 returns-2 c = search refusal
 
 returns-3 : tie.Need-returns-3
+unfolding nameTest
 returns-3 c = search refusal
 
 returns-4 : tie.Need-returns-4
+unfolding nameTest
 returns-4 c = search refusal
 
 returns-5 : tie.Need-returns-5
+unfolding nameTest
 returns-5 c = search onward
 
 pub name-test-spec : {M : Type 1} → statement M
-unfolding nameTest
 name-test-spec =
     tie.close
     (tie.spec

@@ -1,3 +1,4 @@
+-- The two lengths stand where `readEnd` reads them, and the code adds them up as it does.
 use Rattle.sff_format.specs.ReadTest.{readEnd}
 use borrow.Author.Needs.{needs}
 use Rattle.sff_read.proofs.inner.read_end.Statement.{statement}

@@ -1,4 +1,6 @@
--- The tests in their order, each on what the call before it answered.
+-- Each `return` follows one test that refuses and others before it that accepted: `readTest` is the chain of them, over
+-- the lengths and the fields as they were read (`read-tested`). A name that is accepted lies in the file whole, so the
+-- data section starts in it.
 use Rattle.answers.proofs.Chains.{refusal, onward}
 use Rattle.sff_format.specs.ReadTest.{readTest}
 use Rattle.sff_read.proofs.ReadLaws.{name-fits, read-tested}
@@ -12,13 +14,15 @@ returns c = search refusal
 
 returns-2 : tie.Need-returns-2
 unfolding readTest
-returns-2 c = let l = c .before .before .before in rw (← (l .before .get16 .ensures .0), ← (l .get162 .ensures .0)) (search refusal)
+returns-2 c =
+    let lengths = c .before .before .before in
+    rw (← (lengths .before .get16 .ensures .0), ← (lengths .get162 .ensures .0)) (search refusal)
 
 returns-3 : tie.Need-returns-3
 returns-3 c = search (refusal, read-tested)
 
 data-test-requires : tie.Need-data-test-requires
-data-test-requires c κs = let h = name-fits _ _ _ _ (c .before .before .before .before .before .before .name-test .ensures) (c .before .before .before .before .enum-told .given .1) in search needs
+data-test-requires c κs = search (name-fits, needs)
 
 returns-4 : tie.Need-returns-4
 returns-4 c = search (onward, read-tested)

@@ -1,3 +1,4 @@
+-- The fields stand where `viewAt` reads them, and the places are the same sums of them.
 use Rattle.sff_format.specs.View.{viewAt}
 use borrow.Author.Needs.{needs}
 use Rattle.sff_read.proofs.inner.read_view.Statement.{statement}

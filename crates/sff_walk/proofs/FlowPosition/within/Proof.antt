@@ -1,3 +1,4 @@
+-- The code's two comparisons, joined, are `isFlow`.
 use borrow.Author.Needs.{needs}
 use Rattle.sff_format.specs.Rules.{isFlow}
 use Rattle.sff_walk.proofs.FlowPosition.within.Statement.{statement}

@@ -1,3 +1,4 @@
+-- The code's two comparisons, joined, are `isCall`: the flow's character stands one place before its position.
 use Rattle.sff_format.specs.Rules.{isCall}
 use borrow.Author.Needs.{needs}
 use Rattle.sff_walk.proofs.inner.is_call.Statement.{statement}

@@ -10,19 +10,19 @@ Inv-loop pairs i₀ i = 2 * pairs < 2 ^ 64
 abbrev μ-loop : tie.MeasureT-loop
 μ-loop pairs i₀ i = pairs - i
 
-loop-holds : tie.Need-loop-holds
+loop-holds : tie.Need-loop-holds Inv-loop μ-loop
 loop-holds c = omega arith
 
-mul-correct : tie.Need-mul-correct
+mul-correct : tie.Need-mul-correct Inv-loop μ-loop
 mul-correct c = omega arith
 
-add-correct : tie.Need-add-correct
+add-correct : tie.Need-add-correct Inv-loop μ-loop
 add-correct c = omega arith
 
-mul-correct-2 : tie.Need-mul-correct-2
+mul-correct-2 : tie.Need-mul-correct-2 Inv-loop μ-loop
 mul-correct-2 c = omega arith
 
-add-correct-2 : tie.Need-add-correct-2
+add-correct-2 : tie.Need-add-correct-2 Inv-loop μ-loop
 add-correct-2 c = omega arith
 
 pub main-spec : {M : Type 1} → statement M

@@ -40,10 +40,10 @@ loop-again c =
     let turn = read .before in
     listing-more (turn .before .loop .inv) (left turn) (read .next-read .ensures .0) _ (read .next-read .ensures .1) (λ rest k. left-more (viewLine _ _ (read .next-read .result .view)) rest k (line .after-view-line .ensures))
 
-next-read-requires : tie.Need-next-read-requires
+next-read-requires : tie.Need-next-read-requires Inv-loop μ-loop
 next-read-requires c κs = let l = c .before in let d = given l in (l .loop .inv .walk, (left c, (d .pre .1 .0, d .pre .1 .1)))
 
-returns : tie.Need-returns
+returns : tie.Need-returns Inv-loop μ-loop
 returns c = let d = given (c .before) in left-done (listing-done (c .before .loop .inv) (omega (arith, c .loop-test .left, reads-of (d .args .header) _ (d .pre .1 .0))))
 
 pub after-reads-spec : {M : Type 1} → statement M

@@ -47,13 +47,13 @@ put-view-line-requires c κs =
     let turn = read .before in
     coming-room (listing-next (turn .before .loop .inv) (left turn) (read .next-read .ensures .0)) _ _ refl
 
-next-read-requires : tie.Need-next-read-requires
+next-read-requires : tie.Need-next-read-requires Inv-loop μ-loop
 next-read-requires c κs = let l = c .before in let d = given l in (l .loop .inv .walk, (left c, (d .pre .1 .0, d .pre .1 .1 .0)))
 
-same-length : tie.Need-same-length
+same-length : tie.Need-same-length Inv-loop μ-loop
 same-length c = c .before .loop .inv .coming .same
 
-returns : tie.Need-returns
+returns : tie.Need-returns Inv-loop μ-loop
 returns c = let d = given (c .before) in coming-done (listing-done (c .before .loop .inv) (omega (arith, c .loop-test .left, reads-of (d .args .header) _ (d .pre .1 .0)))) refl
 
 pub put-reads-spec : {M : Type 1} → statement M

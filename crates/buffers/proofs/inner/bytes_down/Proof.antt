@@ -1,8 +1,9 @@
+-- From the first byte on, each turn puts one byte more; it lies above what is put so far, so that it is still as it was.
 use Prim.Native.Nat.{_-_}
-use native.Mathlib.Omega.{arith}
 use Rattle.octets.specs.Parts.{part}
-use Rattle.octets.proofs.Moves.{Up, up-start, moves}
-use Rattle.octets.proofs.Lists.{length-part}
+use Rattle.octets.proofs.Moves.{Up, moves}
+use borrow.Author.Needs.{needs}
+use Rattle.buffers.proofs.Starts.{move-down-start}
 use Rattle.buffers.proofs.inner.bytes_down.Statement.{statement}
 use Rattle.buffers.proofs.inner.bytes_down.Tie as tie
 
@@ -12,36 +13,13 @@ Inv-loop s₀ from to n j₀ s j = Up to n (part from n s₀) s₀ s j
 abbrev μ-loop : tie.MeasureT-loop
 μ-loop s₀ from to n j₀ s j = n - j
 
-loop-holds : tie.Need-loop-holds
-loop-holds c =
-    let a = c .args in
-    up-start _ _ _ _ (length-part (a .from) (a .n) (a .s .now) (omega arith)) (omega arith)
+loop-holds : tie.Need-loop-holds Inv-loop μ-loop
+loop-holds c = search (move-down-start, needs)
 
-add-s : tie.Need-add-s
-add-s c = search moves
-
-slice-read-s : tie.Need-slice-read-s
-slice-read-s c = search moves
-
-add-s-2 : tie.Need-add-s-2
-add-s-2 c = search moves
-
-slice-write-s : tie.Need-slice-write-s
-slice-write-s c = search moves
-
-add-j : tie.Need-add-j
-add-j c = search moves
-
-loop-less : tie.Need-loop-less
-loop-less c = search moves
-
-loop-again : tie.Need-loop-again
+loop-again : tie.Need-loop-again Inv-loop μ-loop
 loop-again c = search moves
 
-same-length : tie.Need-same-length
-same-length c = search moves
-
-returns : tie.Need-returns
+returns : tie.Need-returns Inv-loop μ-loop
 returns c = search moves
 
 pub bytes-down-spec : {M : Type 1} → statement M
@@ -51,12 +29,12 @@ bytes-down-spec =
     Inv-loop
     μ-loop
     loop-holds
-    add-s
-    slice-read-s
-    add-s-2
-    slice-write-s
-    add-j
-    loop-less
+    (λ c. search needs)
+    (λ c. search needs)
+    (λ c. search needs)
+    (λ c. search needs)
+    (λ c. search needs)
+    (λ c. search needs)
     loop-again
-    same-length
+    (λ c. search needs)
     returns)

@@ -1,7 +1,8 @@
-use native.Mathlib.Omega.{arith}
+-- From the last byte on, each turn puts one byte more; it lies below what is put so far, so that it is still as it was.
 use Rattle.octets.specs.Parts.{part}
-use Rattle.octets.proofs.Moves.{Down, down-start, moves}
-use Rattle.octets.proofs.Lists.{length-part}
+use Rattle.octets.proofs.Moves.{Down, moves}
+use borrow.Author.Needs.{needs}
+use Rattle.buffers.proofs.Starts.{move-up-start}
 use Rattle.buffers.proofs.inner.bytes_up.Statement.{statement}
 use Rattle.buffers.proofs.inner.bytes_up.Tie as tie
 
@@ -11,36 +12,13 @@ Inv-loop s₀ from to n j₀ s j = Down to n (part from n s₀) s₀ s j
 abbrev μ-loop : tie.MeasureT-loop
 μ-loop s₀ from to n j₀ s j = j
 
-loop-holds : tie.Need-loop-holds
-loop-holds c =
-    let a = c .args in
-    down-start _ _ _ _ (length-part (a .from) (a .n) (a .s .now) (omega arith)) (omega arith)
+loop-holds : tie.Need-loop-holds Inv-loop μ-loop
+loop-holds c = search (move-up-start, needs)
 
-sub-j : tie.Need-sub-j
-sub-j c = search moves
-
-add-s : tie.Need-add-s
-add-s c = search moves
-
-slice-read-s : tie.Need-slice-read-s
-slice-read-s c = search moves
-
-add-s-2 : tie.Need-add-s-2
-add-s-2 c = search moves
-
-slice-write-s : tie.Need-slice-write-s
-slice-write-s c = search moves
-
-loop-less : tie.Need-loop-less
-loop-less c = search moves
-
-loop-again : tie.Need-loop-again
+loop-again : tie.Need-loop-again Inv-loop μ-loop
 loop-again c = search moves
 
-same-length : tie.Need-same-length
-same-length c = search moves
-
-returns : tie.Need-returns
+returns : tie.Need-returns Inv-loop μ-loop
 returns c = search moves
 
 pub bytes-up-spec : {M : Type 1} → statement M
@@ -50,12 +28,12 @@ bytes-up-spec =
     Inv-loop
     μ-loop
     loop-holds
-    sub-j
-    add-s
-    slice-read-s
-    add-s-2
-    slice-write-s
-    loop-less
+    (λ c. search needs)
+    (λ c. search needs)
+    (λ c. search needs)
+    (λ c. search needs)
+    (λ c. search needs)
+    (λ c. search needs)
     loop-again
-    same-length
+    (λ c. search needs)
     returns)

@@ -1,8 +1,8 @@
-use native.Mathlib.Omega.{arith}
+-- From the last block on, each turn puts one block more, which is still as it was; the bytes left are put in one piece.
 use borrow.Author.Needs.{needs}
 use Rattle.octets.specs.Parts.{part}
-use Rattle.octets.proofs.Moves.{Down, down-start, down-block, down-last, moves}
-use Rattle.octets.proofs.Lists.{length-part}
+use Rattle.octets.proofs.Moves.{Down, down-block, down-last}
+use Rattle.buffers.proofs.Starts.{move-up-start}
 use Rattle.buffers.proofs.inner.move_up.Statement.{statement}
 use Rattle.buffers.proofs.inner.move_up.Tie as tie
 
@@ -12,33 +12,13 @@ Inv-loop s₀ from to n j₀ s j = Down to n (part from n s₀) s₀ s j
 abbrev μ-loop : tie.MeasureT-loop
 μ-loop s₀ from to n j₀ s j = j
 
-loop-holds : tie.Need-loop-holds
-loop-holds c =
-    let a = c .before .args in
-    down-start _ _ _ _ (length-part (a .from) (a .n) (a .s .now) (omega arith)) (omega arith)
+loop-holds : tie.Need-loop-holds Inv-loop μ-loop
+loop-holds c = search (move-up-start, needs)
 
-add-move-block : tie.Need-add-move-block
-add-move-block c = search moves
+loop-again : tie.Need-loop-again Inv-loop μ-loop
+loop-again c = search (down-block, needs)
 
-add-move-block-2 : tie.Need-add-move-block-2
-add-move-block-2 c = search moves
-
-move-block-requires : tie.Need-move-block-requires
-move-block-requires c κs = search moves
-
-loop-less : tie.Need-loop-less
-loop-less c = search moves
-
-loop-again : tie.Need-loop-again
-loop-again c = let l = c .before .before .before .before in down-block (l .before .loop .inv) (omega arith) 16384 (l .loop-test .taken) (c .before .before .move-block .ensures)
-
-bytes-up-requires : tie.Need-bytes-up-requires
-bytes-up-requires c κs = search moves
-
-same-length : tie.Need-same-length
-same-length c = search moves
-
-returns : tie.Need-returns
+returns : tie.Need-returns Inv-loop μ-loop
 returns c = search (down-last, needs)
 
 pub move-up-spec : {M : Type 1} → statement M
@@ -48,11 +28,11 @@ move-up-spec =
     Inv-loop
     μ-loop
     loop-holds
-    add-move-block
-    add-move-block-2
-    move-block-requires
-    loop-less
+    (λ c. search needs)
+    (λ c. search needs)
+    (λ c κs. search needs)
+    (λ c. search needs)
     loop-again
-    bytes-up-requires
-    same-length
+    (λ c κs. search needs)
+    (λ c. search needs)
     returns)

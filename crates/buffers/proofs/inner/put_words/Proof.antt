@@ -1,7 +1,9 @@
+-- Each turn puts the two bytes of one value more, behind those of the values before it.
 use Prim.Native.Nat.{_-_}
 use native.Mathlib.Omega.{arith}
 use lib.ListN.{length, length-set}
 use Rattle.octets.proofs.Worded.{Worded, wording}
+use borrow.Author.Needs.{needs}
 use Rattle.buffers.proofs.inner.put_words.Statement.{statement}
 use Rattle.buffers.proofs.inner.put_words.Tie as tie
 
@@ -11,49 +13,16 @@ Inv-loop s₀ at values n j₀ s j = Worded at values s₀ s j
 abbrev μ-loop : tie.MeasureT-loop
 μ-loop s₀ at values n j₀ s j = length values - j
 
-loop-holds : tie.Need-loop-holds
+loop-holds : tie.Need-loop-holds Inv-loop μ-loop
 loop-holds c = search wording
 
-mul-v : tie.Need-mul-v
-mul-v c = search wording
-
-shared-slice-read-v : tie.Need-shared-slice-read-v
-shared-slice-read-v c = search wording
-
-mul-place : tie.Need-mul-place
-mul-place c = search wording
-
-add-place : tie.Need-add-place
-add-place c = search wording
-
-cast-s : tie.Need-cast-s
-cast-s c = search wording
-
-slice-write-s : tie.Need-slice-write-s
-slice-write-s c = search wording
-
-cast-s-2 : tie.Need-cast-s-2
-cast-s-2 c = search wording
-
-add-s : tie.Need-add-s
-add-s c = search wording
-
-slice-write-s-2 : tie.Need-slice-write-s-2
+slice-write-s-2 : tie.Need-slice-write-s-2 Inv-loop μ-loop
 slice-write-s-2 c = simp length-set (omega arith)
 
-add-j : tie.Need-add-j
-add-j c = search wording
-
-loop-less : tie.Need-loop-less
-loop-less c = search wording
-
-loop-again : tie.Need-loop-again
+loop-again : tie.Need-loop-again Inv-loop μ-loop
 loop-again c = search wording
 
-same-length : tie.Need-same-length
-same-length c = search wording
-
-returns : tie.Need-returns
+returns : tie.Need-returns Inv-loop μ-loop
 returns c = search wording
 
 pub put-words-spec : {M : Type 1} → statement M
@@ -63,17 +32,17 @@ put-words-spec =
     Inv-loop
     μ-loop
     loop-holds
-    mul-v
-    shared-slice-read-v
-    mul-place
-    add-place
-    cast-s
-    slice-write-s
-    cast-s-2
-    add-s
+    (λ c. search needs)
+    (λ c. search needs)
+    (λ c. search needs)
+    (λ c. search needs)
+    (λ c. search needs)
+    (λ c. search needs)
+    (λ c. search needs)
+    (λ c. search needs)
     slice-write-s-2
-    add-j
-    loop-less
+    (λ c. search needs)
+    (λ c. search needs)
     loop-again
-    same-length
+    (λ c. search needs)
     returns)

@@ -2,10 +2,6 @@ use Prim.Native.Nat.{_-_}
 use borrow.Author.Needs.{needs}
 use Rattle.lister_runs.proofs.main.Statement.{statement}
 use Rattle.lister_runs.proofs.main.Tie as tie
-use Rattle.lister_runs.proofs.main.Reads as reads
-use Rattle.lister_runs.proofs.main.Lts as lts
-use Rattle.lister_runs.proofs.print_file.Reads as print-file-reads
-use Rattle.os.proofs.arg_count.Reads as arg-count-reads
 
 abbrev Inv-loop : tie.InvT-loop
 Inv-loop n i₀ i = Unit {0}

@@ -1,5 +1,4 @@
 -- The walk says that a read begins past the index.
-use mathlib.Core.Path.{refl, sym}
 use borrow.Author.Needs.{needs}
 use Rattle.sff_format.proofs.Walks.{walk-begins}
 use Rattle.sff_header.proofs.Fields.{flows-of}

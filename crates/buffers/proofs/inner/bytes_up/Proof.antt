@@ -1,7 +1,8 @@
-use native.Mathlib.Omega.{arith}
+-- From the last byte on, each turn puts one byte more; it lies below what is put so far, so that it is still as it was.
 use Rattle.octets.specs.Parts.{part}
-use Rattle.octets.proofs.Moves.{Down, down-start, moves}
-use Rattle.octets.proofs.Lists.{length-part}
+use Rattle.octets.proofs.Moves.{Down, moves}
+use borrow.Author.Needs.{needs}
+use Rattle.buffers.proofs.Starts.{move-up-start}
 use Rattle.buffers.proofs.inner.bytes_up.Statement.{statement}
 use Rattle.buffers.proofs.inner.bytes_up.Tie as tie
 
@@ -12,33 +13,10 @@ abbrev μ-loop : tie.MeasureT-loop
 μ-loop s₀ from to n j₀ s j = j
 
 loop-holds : tie.Need-loop-holds Inv-loop μ-loop
-loop-holds c =
-    let a = c .args in
-    down-start _ _ _ _ (length-part (a .from) (a .n) (a .s .now) (omega arith)) (omega arith)
-
-sub-j : tie.Need-sub-j Inv-loop μ-loop
-sub-j c = search moves
-
-add-s : tie.Need-add-s Inv-loop μ-loop
-add-s c = search moves
-
-slice-read-s : tie.Need-slice-read-s Inv-loop μ-loop
-slice-read-s c = search moves
-
-add-s-2 : tie.Need-add-s-2 Inv-loop μ-loop
-add-s-2 c = search moves
-
-slice-write-s : tie.Need-slice-write-s Inv-loop μ-loop
-slice-write-s c = search moves
-
-loop-less : tie.Need-loop-less Inv-loop μ-loop
-loop-less c = search moves
+loop-holds c = search (move-up-start, needs)
 
 loop-again : tie.Need-loop-again Inv-loop μ-loop
 loop-again c = search moves
-
-same-length : tie.Need-same-length Inv-loop μ-loop
-same-length c = search moves
 
 returns : tie.Need-returns Inv-loop μ-loop
 returns c = search moves
@@ -50,12 +28,12 @@ bytes-up-spec =
     Inv-loop
     μ-loop
     loop-holds
-    sub-j
-    add-s
-    slice-read-s
-    add-s-2
-    slice-write-s
-    loop-less
+    (λ c. search needs)
+    (λ c. search needs)
+    (λ c. search needs)
+    (λ c. search needs)
+    (λ c. search needs)
+    (λ c. search needs)
     loop-again
-    same-length
+    (λ c. search needs)
     returns)

@@ -1,4 +1,4 @@
--- Zeros are filled in from n to the buffer's end.
+-- Zeros put from n to the end of the buffer leave its first n bytes with zeros up to its length.
 use mathlib.Core.Path.{_∙_}
 use borrow.Author.Needs.{needs}
 use Rattle.octets.proofs.Settled.{zeros-behind}
@@ -6,7 +6,10 @@ use Rattle.buffers.proofs.inner.clear_behind.Statement.{statement}
 use Rattle.buffers.proofs.inner.clear_behind.Tie as tie
 
 returns : tie.Need-returns
-returns c = let f = c .before .before in let a = f .before .before .before in f .fill .ensures ∙ zeros-behind (a .args .n) (a .args .s .now) (a .pre)
+returns c =
+    let filled = c .before .before in
+    let start = filled .before .before .before in
+    filled .fill .ensures ∙ zeros-behind (start .args .n) (start .args .s .now) (start .pre)
 
 pub clear-behind-spec : {M : Type 1} → statement M
 clear-behind-spec =

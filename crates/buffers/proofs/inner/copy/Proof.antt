@@ -1,8 +1,9 @@
--- At each turn one byte of the source is put, at its place.
+-- Each turn puts one byte more of the source behind those that stand already, until all n are put.
 use Prim.Native.Nat.{_-_}
 use native.Mathlib.Omega.{arith}
 use Rattle.octets.specs.Parts.{part}
 use Rattle.octets.proofs.Moves.{Up, up-more, part-value, moves}
+use borrow.Author.Needs.{needs}
 use Rattle.buffers.proofs.inner.copy.Statement.{statement}
 use Rattle.buffers.proofs.inner.copy.Tie as tie
 
@@ -15,32 +16,11 @@ abbrev μ-loop : tie.MeasureT-loop
 loop-holds : tie.Need-loop-holds Inv-loop μ-loop
 loop-holds c = search moves
 
-add-s : tie.Need-add-s Inv-loop μ-loop
-add-s c = search moves
-
-shared-slice-read-s : tie.Need-shared-slice-read-s Inv-loop μ-loop
-shared-slice-read-s c = search moves
-
-add-s-2 : tie.Need-add-s-2 Inv-loop μ-loop
-add-s-2 c = search moves
-
-slice-write-s : tie.Need-slice-write-s Inv-loop μ-loop
-slice-write-s c = search moves
-
-add-j : tie.Need-add-j Inv-loop μ-loop
-add-j c = search moves
-
-loop-less : tie.Need-loop-less Inv-loop μ-loop
-loop-less c = search moves
-
 loop-again : tie.Need-loop-again Inv-loop μ-loop
 loop-again c =
     let l = c .before .before in
     let a = l .before .args in
     up-more (l .loop .inv) (omega arith) _ (part-value (a .from) (a .n) (a .source .now) (l .loop .j) (omega arith))
-
-same-length : tie.Need-same-length Inv-loop μ-loop
-same-length c = search moves
 
 returns : tie.Need-returns Inv-loop μ-loop
 returns c = search moves
@@ -52,12 +32,12 @@ copy-spec =
     Inv-loop
     μ-loop
     loop-holds
-    add-s
-    shared-slice-read-s
-    add-s-2
-    slice-write-s
-    add-j
-    loop-less
+    (λ c. search needs)
+    (λ c. search needs)
+    (λ c. search needs)
+    (λ c. search needs)
+    (λ c. search needs)
+    (λ c. search needs)
     loop-again
-    same-length
+    (λ c. search needs)
     returns)

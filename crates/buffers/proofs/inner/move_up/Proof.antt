@@ -1,8 +1,8 @@
-use native.Mathlib.Omega.{arith}
+-- From the last block on, each turn puts one block more, which is still as it was; the bytes left are put in one piece.
 use borrow.Author.Needs.{needs}
 use Rattle.octets.specs.Parts.{part}
-use Rattle.octets.proofs.Moves.{Down, down-start, down-block, down-last, moves}
-use Rattle.octets.proofs.Lists.{length-part}
+use Rattle.octets.proofs.Moves.{Down, down-block, down-last}
+use Rattle.buffers.proofs.Starts.{move-up-start}
 use Rattle.buffers.proofs.inner.move_up.Statement.{statement}
 use Rattle.buffers.proofs.inner.move_up.Tie as tie
 
@@ -13,30 +13,10 @@ abbrev μ-loop : tie.MeasureT-loop
 μ-loop s₀ from to n j₀ s j = j
 
 loop-holds : tie.Need-loop-holds Inv-loop μ-loop
-loop-holds c =
-    let a = c .before .args in
-    down-start _ _ _ _ (length-part (a .from) (a .n) (a .s .now) (omega arith)) (omega arith)
-
-add-move-block : tie.Need-add-move-block Inv-loop μ-loop
-add-move-block c = search moves
-
-add-move-block-2 : tie.Need-add-move-block-2 Inv-loop μ-loop
-add-move-block-2 c = search moves
-
-move-block-requires : tie.Need-move-block-requires Inv-loop μ-loop
-move-block-requires c κs = search moves
-
-loop-less : tie.Need-loop-less Inv-loop μ-loop
-loop-less c = search moves
+loop-holds c = search (move-up-start, needs)
 
 loop-again : tie.Need-loop-again Inv-loop μ-loop
-loop-again c = let l = c .before .before .before .before in down-block (l .before .loop .inv) (omega arith) 16384 (l .loop-test .taken) (c .before .before .move-block .ensures)
-
-bytes-up-requires : tie.Need-bytes-up-requires Inv-loop μ-loop
-bytes-up-requires c κs = search moves
-
-same-length : tie.Need-same-length Inv-loop μ-loop
-same-length c = search moves
+loop-again c = search (down-block, needs)
 
 returns : tie.Need-returns Inv-loop μ-loop
 returns c = search (down-last, needs)
@@ -48,11 +28,11 @@ move-up-spec =
     Inv-loop
     μ-loop
     loop-holds
-    add-move-block
-    add-move-block-2
-    move-block-requires
-    loop-less
+    (λ c. search needs)
+    (λ c. search needs)
+    (λ c κs. search needs)
+    (λ c. search needs)
     loop-again
-    bytes-up-requires
-    same-length
+    (λ c κs. search needs)
+    (λ c. search needs)
     returns)

@@ -15,15 +15,19 @@ returns c =
     four-all _ _ _ _ (count .before .before .before .before .pre) (count .put-labelled-number .ensures) (number .put-labelled-number2 .ensures) (place .put-labelled-number3 .ensures) (size .put-labelled-number4 .ensures)
 
 put-labelled-number-requires : tie.Need-put-labelled-number-requires
+unfolding answerLine
 put-labelled-number-requires c κs = search four
 
 put-labelled-number-requires-2 : tie.Need-put-labelled-number-requires-2
+unfolding answerLine
 put-labelled-number-requires-2 c κs = search four
 
 put-labelled-number-requires-3 : tie.Need-put-labelled-number-requires-3
+unfolding answerLine
 put-labelled-number-requires-3 c κs = search four-3
 
 put-labelled-number-requires-4 : tie.Need-put-labelled-number-requires-4
+unfolding answerLine
 put-labelled-number-requires-4 c κs = search four-4
 
 pub put-answer-line-spec : {M : Type 1} → statement M

@@ -14,12 +14,15 @@ returns c =
     three-all _ _ _ (flows .before .before .before .before .before .pre) (flows .put-labelled-number .ensures) (key .put-labelled-word .ensures) (reads .put-labelled-number2 .ensures)
 
 put-labelled-number-requires : tie.Need-put-labelled-number-requires
+unfolding headerLine
 put-labelled-number-requires c κs = search three
 
 put-labelled-word-requires : tie.Need-put-labelled-word-requires
+unfolding headerLine
 put-labelled-word-requires c κs = search three
 
 put-labelled-number-requires-2 : tie.Need-put-labelled-number-requires-2
+unfolding headerLine
 put-labelled-number-requires-2 c κs = search three-3
 
 pub put-header-line-spec : {M : Type 1} → statement M

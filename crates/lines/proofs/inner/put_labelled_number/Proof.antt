@@ -5,12 +5,15 @@ use Rattle.lines.proofs.inner.put_labelled_number.Statement.{statement}
 use Rattle.lines.proofs.inner.put_labelled_number.Tie as tie
 
 put-bytes-requires : tie.Need-put-bytes-requires
+unfolding labelledNumber
 put-bytes-requires c κs = search two
 
 put-number-field-requires : tie.Need-put-number-field-requires
+unfolding labelledNumber
 put-number-field-requires c κs = search two
 
 returns : tie.Need-returns
+unfolding labelledNumber
 returns c = search two
 
 pub put-labelled-number-spec : {M : Type 1} → statement M

@@ -5,12 +5,15 @@ use Rattle.lines.proofs.inner.put_labelled_word.Statement.{statement}
 use Rattle.lines.proofs.inner.put_labelled_word.Tie as tie
 
 put-bytes-requires : tie.Need-put-bytes-requires
+unfolding labelledWord
 put-bytes-requires c κs = search two
 
 put-word-field-requires : tie.Need-put-word-field-requires
+unfolding labelledWord
 put-word-field-requires c κs = search two
 
 returns : tie.Need-returns
+unfolding labelledWord
 returns c = search two
 
 pub put-labelled-word-spec : {M : Type 1} → statement M

@@ -5,12 +5,15 @@ use Rattle.lines.proofs.inner.put_number_field.Statement.{statement}
 use Rattle.lines.proofs.inner.put_number_field.Tie as tie
 
 put-number-requires : tie.Need-put-number-requires
+unfolding numberField
 put-number-requires c κs = search two
 
 put-byte-requires : tie.Need-put-byte-requires
+unfolding numberField
 put-byte-requires c κs = search two
 
 returns : tie.Need-returns
+unfolding numberField
 returns c = search two
 
 pub put-number-field-spec : {M : Type 1} → statement M

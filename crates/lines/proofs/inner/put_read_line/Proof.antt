@@ -15,15 +15,19 @@ returns c =
     four-all _ _ _ _ (position .before .before .before .before .before .pre) (position .put-number-field .ensures) (name .put-word-field .ensures) (extent .put-extent .ensures) (insert .put-word-field2 .ensures)
 
 put-number-field-requires : tie.Need-put-number-field-requires
+unfolding readLine
 put-number-field-requires c κs = search four
 
 put-word-field-requires : tie.Need-put-word-field-requires
+unfolding readLine
 put-word-field-requires c κs = search four
 
 put-extent-requires : tie.Need-put-extent-requires
+unfolding readLine
 put-extent-requires c κs = search four
 
 put-word-field-requires-2 : tie.Need-put-word-field-requires-2
+unfolding readLine
 put-word-field-requires-2 c κs = search four-4
 
 pub put-read-line-spec : {M : Type 1} → statement M

@@ -13,9 +13,11 @@ returns c =
     two-all _ _ (number .before .before .before .before .pre) (number .put-labelled-number .ensures) (place .put-labelled-number2 .ensures)
 
 put-labelled-number-requires : tie.Need-put-labelled-number-requires
+unfolding refusalLine
 put-labelled-number-requires c κs = search two
 
 put-labelled-number-requires-2 : tie.Need-put-labelled-number-requires-2
+unfolding refusalLine
 put-labelled-number-requires-2 c κs = search two
 
 pub put-refusal-line-spec : {M : Type 1} → statement M

@@ -5,12 +5,15 @@ use Rattle.lines.proofs.inner.put_word_field.Statement.{statement}
 use Rattle.lines.proofs.inner.put_word_field.Tie as tie
 
 put-or-dash-requires : tie.Need-put-or-dash-requires
+unfolding wordField
 put-or-dash-requires c κs = search two
 
 put-byte-requires : tie.Need-put-byte-requires
+unfolding wordField
 put-byte-requires c κs = search two
 
 returns : tie.Need-returns
+unfolding wordField
 returns c = search two
 
 pub put-word-field-spec : {M : Type 1} → statement M

@@ -14,8 +14,8 @@ unfoldable pub orDash : List ℕ → List ℕ
 orDash xs = cond (eqb (length xs) 0) (45 ∷ []) xs
 
 -- what a function that puts xs at place `at` of l asks: that there is room for it
-pub record Room (at : ℕ) (xs l : List ℕ) : Type 0 where
-  pub fits : at + length xs ≤ length l
+pub record Room (at : ℕ) (xs list : List ℕ) : Type 0 where
+  pub fits : at + length xs ≤ length list
 
 -- what a call that is to put a text comes to: its answer, and the text that it puts
 pub record Fitted : Type 0 where
@@ -32,7 +32,7 @@ fitted room xs = tested (when (ltb room (length xs)) 26 0) xs
 
 -- what such a call answers
 abbrev pub written : Fitted → Written
-written f = record { answer = f .answer; length = length (f .text) }
+written result = record { answer = result .answer; length = length (result .text) }
 
 -- the number that it may answer with, beside 0
 abbrev pub textNumbers : List ℕ

@@ -16,7 +16,7 @@ abbrev pub placeOf : Answer → ℕ
 placeOf Accepted = 0
 placeOf (Refused number place) = place
 
--- number n at place p where the test holds
+-- that number at that place where the test holds
 unfoldable pub when : Bool → ℕ → ℕ → Answer
 when true number place = Refused number place
 when false number place = Accepted
@@ -27,7 +27,7 @@ unfoldable pub _then_ : Answer → Answer → Answer
 Accepted then next = next
 (Refused number place) then next = Refused number place
 
--- number n at the place where a scan stopped, if it stopped short of the end: "Within one test the lowest place is named"
+-- that number at the place where a scan stopped, if it stopped short of the end: "Within one test the lowest place is named"
 abbrev pub stopped : ℕ → ℕ → ℕ → Answer
 stopped number place end = when (ltb place end) number place
 
@@ -51,7 +51,7 @@ abbrev pub Refusing : (ℕ → ℕ → Type 0) → Answer → Type 0
 Refusing P Accepted = Unit {0}
 Refusing P (Refused number place) = P number place
 
--- n is one of the numbers
+-- the number is one of these
 unfoldable pub among : ℕ → List ℕ → Bool
 among number [] = false
 among number (first ∷ rest) = eqb number first || among number rest

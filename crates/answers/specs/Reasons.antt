@@ -14,7 +14,7 @@ abbrev pub NoneHolds : List Reason → Type 0
 NoneHolds [] = Unit {0}
 NoneHolds (reason ∷ reasons) = (reason .holds → ⊥) × NoneHolds reasons
 
--- a is answered for the first reason that holds, or is acceptance where none does
+-- this is answered for the first reason that holds, or is acceptance where none does
 abbrev pub FirstHolds : List Reason → Answer → Type 0
 FirstHolds [] answer = answer ≡ Accepted
 FirstHolds (reason ∷ reasons) answer = (reason .holds × (answer ≡ reason .answer)) ⊎ ((reason .holds → ⊥) × FirstHolds reasons answer)

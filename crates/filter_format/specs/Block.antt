@@ -64,7 +64,7 @@ followAt block = part 1 256 block
 abbrev pub dataAt : Filter → List ℕ → List ℕ
 dataAt filter block = drop (headerLength filter) block
 
--- the data s of a block, with their filter undone
+-- the data of a block, with their filter undone
 unfoldable pub decoded : Filter → ℕ → List ℕ → List ℕ → List ℕ
 decoded Raw level follow source = source
 decoded (Delta width) level follow source = undeltaBytes width level source

@@ -5,23 +5,24 @@ use mathlib.Core.List.{List, [], _∷_}
 use Rattle.octets.specs.Numbers.{Below, unitBytes}
 use Rattle.filter_format.specs.Units.{range, unitsOf}
 
--- along xs with p remembered: out p x takes the place of x, and next p x is remembered in the place of p
+-- along the units with the previous one remembered: `out` gives what takes the place of a unit, and `next` what is
+-- remembered in the place of the previous one
 unfoldable pub scan : (ℕ → ℕ → ℕ) → (ℕ → ℕ → ℕ) → ℕ → List ℕ → List ℕ
 scan out next previous [] = []
 scan out next previous (unit ∷ units) = out previous unit ∷ scan out next (next previous unit) units
 
--- "less the one before", modulo m; and the way back
+-- "less the one before", modulo some number; and the way back
 abbrev pub difference : ℕ → ℕ → ℕ → ℕ
 difference modulus previous unit = (unit + (modulus - previous)) % modulus
 
 abbrev pub sum : ℕ → ℕ → ℕ → ℕ
 sum modulus previous unit = (previous + unit) % modulus
 
--- x itself is remembered
+-- the unit itself is remembered
 abbrev pub latest : ℕ → ℕ → ℕ
 latest previous unit = unit
 
--- "each unit less the one before, modulo the unit's range, the first less 0"; m is the range
+-- "each unit less the one before, modulo the unit's range, the first less 0"; the modulus is the range
 abbrev pub delta : ℕ → List ℕ → List ℕ
 delta modulus units = scan (difference modulus) latest 0 units
 
@@ -39,7 +40,7 @@ unfoldable pub undeltas : ℕ → ℕ → List ℕ → List ℕ
 undeltas modulus zero units = units
 undeltas modulus (suc level) units = undeltas modulus level (undelta modulus units)
 
--- the same of data in units of w bytes
+-- the same of data in units of `width` bytes
 unfoldable pub deltaBytes : ℕ → ℕ → List ℕ → List ℕ
 deltaBytes width level source = unitBytes width (deltas (range width) level (unitsOf width source))
 

@@ -33,7 +33,7 @@ encodedData (Narrow width) level follow source = narrow width (unitsOf width sou
 encodedData Follow level follow source = followed follow source
 encodedData Other level follow source = []
 
--- the block that one layer over the data s makes
+-- the block that one layer over the data makes
 unfoldable pub encoded : ℕ → ℕ → List ℕ → List ℕ → List ℕ
 encoded format level follow source = format ∷ (headerRest (filterOf format) level follow ++ encodedData (filterOf format) level follow source)
 
@@ -69,7 +69,7 @@ encode room format level follow source = tested (encodeTest room format level fo
 abbrev pub outAfter : Result → List ℕ → List ℕ
 outAfter result out = putAt 0 (result .bytes) out
 
--- "Encode after undo returns the block for 64, 65, 66, 72 (same level and follow bytes); not for 70, 71": what it asks for a block b of that filter
+-- "Encode after undo returns the block for 64, 65, 66, 72 (same level and follow bytes); not for 70, 71": what it asks for a block of that filter
 abbrev pub SameFor : Filter → List ℕ → ℕ → List ℕ → Type 0
 SameFor Raw block level follow = ⊥
 SameFor (Delta width) block level follow = level ≡ levelAt block

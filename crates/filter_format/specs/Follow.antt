@@ -4,7 +4,7 @@ use mathlib.Core.List.{List, [], _∷_}
 use lib.ListN.{getD}
 use Rattle.filter_format.specs.Delta.{scan, latest}
 
--- "follow[previous byte] less the byte, modulo 256": p is the previous byte
+-- "follow[previous byte] less the byte, modulo 256"
 abbrev pub predicted : List ℕ → ℕ → ℕ → ℕ
 predicted follow previous byte = (getD follow previous 0 + (256 - byte)) % 256
 

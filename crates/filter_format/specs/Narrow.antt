@@ -19,7 +19,7 @@ unfoldable pub narrow : ℕ → List ℕ → List ℕ
 narrow width [] = []
 narrow width (unit ∷ units) = narrowUnit width unit ++ narrow width units
 
--- the unit of the byte c, which is not 128, with its sign
+-- the unit of a byte, which is not 128, with its sign
 unfoldable pub extended : ℕ → ℕ → ℕ
 extended width byte = cond (ltb byte 128) byte (range width - 256 + byte)
 

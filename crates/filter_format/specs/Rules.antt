@@ -11,8 +11,8 @@ use Rattle.filter_format.specs.Units.{unitsOf}
 use Rattle.filter_format.specs.Encode.{encode}
 
 -- ZTR, format 64: "replaces successive bytes with their differences .. For determining the first difference we compare
--- against zero .. unsigned values with automatic an wrap-around". ys are the differences of xs modulo m: each with the
--- unit before makes the unit
+-- against zero .. unsigned values with automatic an wrap-around". ys are the differences of xs by the modulus: each with
+-- the unit before makes the unit
 pub record Differences (modulus : ℕ) (xs ys : List ℕ) : Type 0 where
   pub as-many : length ys ≡ length xs
   pub each : (i : ℕ) → i < length xs → (getD ys i 0 < modulus) × ((getD ys i 0 + getD (0 ∷ xs) i 0) % modulus ≡ getD xs i 0)
@@ -22,13 +22,13 @@ abbrev pub Rounds : ℕ → ℕ → List ℕ → List ℕ → Type 0
 Rounds modulus zero xs ys = ys ≡ xs
 Rounds modulus (suc level) xs ys = (zs : List ℕ) × Rounds modulus level xs zs × Differences modulus zs ys
 
--- the data s in units of w bytes, at a level, behind a header: formats 64, 65 ("the difference between successive
+-- the data in units of `width` bytes, at a level, behind a header: formats 64, 65 ("the difference between successive
 -- 16-bit numbers") and 66; with no header SCF's samples: "first: delta = current_value - previous_value, then:
 -- delta_delta = delta - previous_delta"
 abbrev pub DeltaOf : List ℕ → ℕ → ℕ → List ℕ → List ℕ → Type 0
 DeltaOf header width level source block = (ys : List ℕ) × Rounds (256 ^ width) level (unitsOf width source) ys × (block ≡ header ++ unitBytes width ys)
 
--- "in the range of -127 to +127 inclusive": a unit of w bytes, in two's complement
+-- "in the range of -127 to +127 inclusive": a unit of `width` bytes, in two's complement
 abbrev pub IsSmall : ℕ → ℕ → Type 0
 IsSmall width unit = (unit ≤ 127) ⊎ (256 ^ width ≤ unit + 127)
 
@@ -56,7 +56,7 @@ pub record Predicted (follow xs ys : List ℕ) : Type 0 where
 abbrev pub PredictedOf : List ℕ → List ℕ → List ℕ → List ℕ → Type 0
 PredictedOf header follow source block = (ys : List ℕ) × Predicted follow source ys × (block ≡ header ++ ys)
 
--- what encoding makes of the data s, where it is carried out, by the six formats
+-- what encoding makes of the data, where it is carried out, by the six formats
 pub record EncodedByRule (room level : ℕ) (follow source : List ℕ) : Type 0 where
   pub by-64 : numberOf (encode room 64 level follow source .answer) ≡ 0 → DeltaOf (64 ∷ level ∷ []) 1 level source (encode room 64 level follow source .bytes)
   pub by-65 : numberOf (encode room 65 level follow source .answer) ≡ 0 → DeltaOf (65 ∷ level ∷ []) 2 level source (encode room 65 level follow source .bytes)

@@ -1,4 +1,4 @@
--- Data in units of w bytes, big endian. Assumes nothing: these are definitions.
+-- Data in units of `width` bytes, big endian. Assumes nothing: these are definitions.
 use Prim.Native.Nat.{ℕ, _/_, _%_, _^_, _<_, _≤_}
 use mathlib.Core.Bool.{Bool, not}
 use mathlib.Core.List.{List}
@@ -11,11 +11,11 @@ use Rattle.octets.specs.Numbers.{unitsAt}
 abbrev pub IsWidth : ℕ → Type 0
 IsWidth width = (0 < width) × (width ≤ 4) × (width ≢ 3)
 
--- "the unit's range": a unit of w bytes has so many values
+-- "the unit's range": a unit of `width` bytes has so many values
 abbrev pub range : ℕ → ℕ
 range width = 256 ^ width
 
--- the units of the data s
+-- the units of the data
 abbrev pub unitsOf : ℕ → List ℕ → List ℕ
 unitsOf width source = unitsAt width (length source / width) 0 source
 

@@ -44,6 +44,6 @@ enough n = 7 * n + 64
 unfoldable pub printed : List ℕ → List ℕ
 printed file = cond (ltb 65536 (length file)) tooLong (listing file)
 
--- what the code puts for a read: its line, from its places in the file b
+-- what the code puts for a read: its line, from its places in the file
 unfoldable pub viewLine : List ℕ → ℕ → ReadView → List ℕ
 viewLine file position view = readLine position (bytesIn file (view .name)) (view .bases .size) (viewFirst view) (viewLast view) (insertIn view (bytesIn file (view .bases)))

@@ -3,7 +3,7 @@ use Prim.Native.Nat.{ℕ, zero, suc, _+_, _*_, _/_, _%_, _^_, _<_}
 use mathlib.Core.List.{List, [], _∷_, _++_}
 use Rattle.octets.specs.Parts.{part}
 
--- every element is below m
+-- every element is below the limit
 abbrev pub Below : ℕ → List ℕ → Type 0
 Below limit [] = Unit {0}
 Below limit (x ∷ xs) = (x < limit) × Below limit xs
@@ -12,7 +12,7 @@ Below limit (x ∷ xs) = (x < limit) × Below limit xs
 abbrev pub Bytes : List ℕ → Type 0
 Bytes xs = Below 256 xs
 
--- the number that a, followed by the digits xs to base 256, spells
+-- the number that `front`, followed by the digits xs to base 256, spells
 unfoldable pub bigEndianFrom : ℕ → List ℕ → ℕ
 bigEndianFrom front [] = front
 bigEndianFrom front (x ∷ xs) = bigEndianFrom (front * 256 + x) xs
@@ -21,11 +21,11 @@ bigEndianFrom front (x ∷ xs) = bigEndianFrom (front * 256 + x) xs
 abbrev pub bigEndian : List ℕ → ℕ
 bigEndian xs = bigEndianFrom 0 xs
 
--- the number of w bytes at place p
+-- the number of `width` bytes at a place
 unfoldable pub number : ℕ → ℕ → List ℕ → ℕ
 number width place bytes = bigEndian (part place width bytes)
 
--- the k low bytes of v, the most significant first
+-- the k low bytes of the value, the most significant first
 unfoldable pub bytesOf : ℕ → ℕ → List ℕ
 bytesOf zero value = []
 bytesOf (suc k) value = value / 256 ^ k % 256 ∷ bytesOf k value
@@ -35,12 +35,12 @@ unfoldable pub fields : List (ℕ × ℕ) → List ℕ
 fields [] = []
 fields (x ∷ xs) = bytesOf (x .0) (x .1) ++ fields xs
 
--- numbers of w bytes each
+-- numbers of `width` bytes each
 unfoldable pub unitBytes : ℕ → List ℕ → List ℕ
 unitBytes width [] = []
 unitBytes width (value ∷ values) = bytesOf width value ++ unitBytes width values
 
--- the n numbers of w bytes from place p on
+-- the n numbers of `width` bytes from a place on
 unfoldable pub unitsAt : ℕ → ℕ → ℕ → List ℕ → List ℕ
 unitsAt width zero place bytes = []
 unitsAt width (suc n) place bytes = number width place bytes ∷ unitsAt width n (place + width) bytes

@@ -7,7 +7,7 @@ use Rattle.sff_correction.specs.Record.{kind, oldLength, newLength, newQ
 use Rattle.sff_correction.specs.Correction.{Correction, moved}
 use Rattle.sff_correction.specs.RecordLayout.{parseRecord}
 
--- those of the record r, for the read at position i
+-- those of a record, for the read at a position
 abbrev pub fieldsAt : ℕ → List ℕ → Fields
 fieldsAt position «record» = record {
   kind = kind «record»;
@@ -20,7 +20,7 @@ fieldsAt position «record» = record {
   «adapter_right» = newAdapterRight «record»;
 }
 
--- x are the fields of the record r, but for the position
+-- they are the fields of the record, but for the position
 abbrev pub FieldsOf : Fields → List ℕ → Type 0
 FieldsOf fields «record» = fields ≡ fieldsAt (fields .position) «record»
 

@@ -47,13 +47,13 @@ NewClipAbove n (clips quality-left quality-right adapter-left adapter-right) = C
 NewClipAbove n (rename name) = ⊥
 NewClipAbove n remove = ⊥
 
--- the change gives a name that another read than the one at position i bears
+-- the change gives a name that another read than the one at that position bears
 abbrev pub Borne : Change → ℕ → File → Type 0
 Borne (clips quality-left quality-right adapter-left adapter-right) position content = ⊥
 Borne (rename name) position content = (other : ℕ) × (other < length (content .reads)) × (other ≡ position → ⊥) × (readAt content other .name ≡ name)
 Borne remove position content = ⊥
 
--- the correction's own on the file f, in a buffer of so many bytes
+-- the correction's own on a file, in a buffer of so many bytes
 abbrev pub ownReasons : ℕ → Correction → File → List Reason
 ownReasons room correction content =
     -- "21 position not below the number of reads"

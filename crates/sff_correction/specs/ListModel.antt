@@ -20,7 +20,7 @@ use Rattle.sff_correction.specs.Reasons.{reasons}
 use Rattle.sff_correction.specs.InOrder.{malformed, ownReasons}
 use Rattle.sff_correction.specs.ListRun.{recordAt, Run, ran}
 
--- the correction that the record at position k of the list l says
+-- the correction that the record at position k of the list says
 abbrev pub correctionAt : List ℕ → ℕ → Correction
 correctionAt list k = parseRecord (recordAt k list)
 

@@ -11,7 +11,7 @@ use Rattle.answers.specs.Answer.{acceptedOr}
 use Rattle.sff_correction.specs.declared.ListOutcome.{ListOutcome}
 use Rattle.sff_correction.specs.Correct.{correctTest, correctOutcome, correctBuffer}
 
--- "A list is records of 96 bytes, no header": the record at position k of the list l
+-- "A list is records of 96 bytes, no header": the record at position k of the list
 abbrev pub recordAt : ℕ → List ℕ → List ℕ
 recordAt k list = part (96 * k) 96 list
 

@@ -43,14 +43,14 @@ oldName «record» = part 16 (oldLength «record») «record»
 abbrev pub newName : List ℕ → List ℕ
 newName «record» = part 56 (newLength «record») «record»
 
--- "Names fill 1 to 40 bytes of 33 to 126, zeros after": a name of n bytes in the 40 bytes from place p on
+-- "Names fill 1 to 40 bytes of 33 to 126, zeros after": a name of n bytes in the 40 bytes from a place on
 unfoldable pub nameFieldTest : ℕ → ℕ → List ℕ → Answer
 nameFieldTest place n «record» =
     when (ltb n 1 || ltb 40 n) 20 0
     then when (fails isNameByte (part place n «record»)) 20 0
     then when (fails isZero (part (place + n) (40 - n) «record»)) 20 0
 
--- "What a kind does not use is zero": n bytes from place p on
+-- "What a kind does not use is zero": n bytes from a place on
 unfoldable pub unusedTest : ℕ → ℕ → List ℕ → Answer
 unusedTest place n «record» = when (fails isZero (part place n «record»)) 20 0
 

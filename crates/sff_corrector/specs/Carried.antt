@@ -22,11 +22,11 @@ abbrev pub StartIn : List ℕ → Start → Type 0
 StartIn file Header = Unit {0}
 StartIn file (Known mark) = Marked file mark
 
--- at the read at position i, which starts at place p
+-- at the read at a position, which starts at a place
 abbrev pub knownAt : ℕ → ℕ → Start
 knownAt position place = Known (record { position = position; place = place })
 
--- an accepted file of n bytes stands at the front of the buffer: the next record needs no test of it
+-- an accepted file of `len` bytes stands at the front of the buffer: the next record needs no test of it
 pub record Ready (buffer : List ℕ) (len : ℕ) (from : Start) : Type 0 where
   pub inside : len ≤ length buffer
   pub accepted : fileTest (take len buffer) ≡ Accepted

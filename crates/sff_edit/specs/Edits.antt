@@ -1,4 +1,4 @@
--- What each edit in place writes, in bytes: p is the place of the read, len the file's length in the buffer b.
+-- What each edit in place writes, in bytes: `place` is the read's, `len` the file's length in the buffer.
 -- Assumes nothing: these are definitions.
 use Prim.Native.Nat.{ℕ, _+_, _-_}
 use mathlib.Core.List.{List, [], _++_}

@@ -9,7 +9,7 @@ use Rattle.sff_format.specs.HeaderTest.{indexOffset, indexLength, readCo
 use Rattle.sff_format.specs.ReadTest.{sectionLength, nameLength, baseCount, qualityLeft, qualityRight, adapterLeft, adapterRight, readEnd}
 use Rattle.sff_format.specs.FileTest.{pastIndex, nowPassed}
 
--- the read at place p, of F flow values
+-- the read at a place, of F flow values
 unfoldable pub parseRead : ℕ → List ℕ → ℕ → Read
 parseRead F file place =
     let data-start = place + sectionLength file place in
@@ -26,7 +26,7 @@ parseRead F file place =
       qualities = part (data-start + 2 * F + count + count) count file;
     }
 
--- n reads from the boundary p on
+-- n reads from the boundary at a place on
 unfoldable pub parseReads : List ℕ → ℕ → ℕ → Bool → List Read
 parseReads file zero place passed = []
 parseReads file (suc n) place passed =

@@ -27,7 +27,7 @@ noRead = record {
 abbrev pub readAt : File → ℕ → Read
 readAt content position = getD (content .reads) position noRead
 
--- the reads with ws in the place of the one at position i
+-- the reads with new ones in the place of the one at a position
 abbrev pub replaced : ℕ → List Read → List Read → List Read
 replaced position new reads = take position reads ++ new ++ drop (suc position) reads
 
@@ -37,7 +37,7 @@ place content position =
     let at = length (layoutHeader content) + length (layoutReads (take position (content .reads))) in
     at + cond (leb (content .index .offset) at) (length (layoutIndex (content .index))) 0
 
--- where it starts, found from the boundary p on: past any index, and past i reads
+-- where it starts, found from a boundary on: past any index, and past as many reads as its position says
 unfoldable pub placeFrom : List ℕ → ℕ → ℕ → Bool → ℕ
 placeFrom file zero boundary passed = pastIndex file boundary passed
 placeFrom file (suc position) boundary passed = placeFrom file position (readEnd (flows file) file (pastIndex file boundary passed)) (nowPassed file boundary passed)

@@ -1,4 +1,4 @@
--- The fields of the read at place p, and a read's tests in document 01's order. Assumes nothing: these are definitions.
+-- The fields of the read at a place, and a read's tests in document 01's order. Assumes nothing: these are definitions.
 use Prim.Native.Nat.{ℕ, _+_, _*_}
 use mathlib.Core.Bool.{not}
 use mathlib.Core.List.{List}
@@ -33,7 +33,7 @@ adapterLeft file place = number 2 (place + 12) file
 abbrev pub adapterRight : List ℕ → ℕ → ℕ
 adapterRight file place = number 2 (place + 14) file
 
--- 5, 1, 6, 7: a header section of stated length s with a name of L bytes
+-- 5, 1, 6, 7: a header section of the stated length with a name of L bytes
 unfoldable pub nameTest : List ℕ → ℕ → ℕ → ℕ → Answer
 nameTest file place stated L =
     when (not (eqb stated (up8 (16 + L)))) 5 place
@@ -49,13 +49,13 @@ clipTest place n quality-left quality-right adapter-left adapter-right =
     then when (ltb (leftLimit n) adapter-left) 9 (place + 12)
     then when (ltb (rightLimit n) adapter-right) 9 (place + 14)
 
--- 10, 11: increments xs and the bases ys that follow them, places counted from the first increment. "The walk stops at the first base that breaks this"
+-- 10, 11: increments and the bases that follow them, places counted from the first increment. "The walk stops at the first base that breaks this"
 unfoldable pub basesTest : List ℕ → List ℕ → List ℕ → Answer
 basesTest characters increments bases =
     stopped 10 (walkRun (length characters) 0 increments) (length increments)
     then stopped 11 (length increments + callRun characters 0 increments bases) (length increments + length bases)
 
--- 1, 10, 11, 7: a data section at place d, of n bases
+-- 1, 10, 11, 7: a data section at a place, of n bases
 unfoldable pub dataTest : List ℕ → List ℕ → ℕ → ℕ → Answer
 dataTest characters file place n =
     let F = length characters in

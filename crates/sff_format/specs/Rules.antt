@@ -33,7 +33,7 @@ rightLimit n = n
 unfoldable pub isFlow : ℕ → ℕ → Bool
 isFlow F flow = leb 1 flow && leb flow F
 
--- "Index bytes are increments. The running sum after each base is its flow position": after flow position f, how many of them keep the rule
+-- "Index bytes are increments. The running sum after each base is its flow position": after a flow position, how many of them keep the rule
 unfoldable pub walkRun : ℕ → ℕ → List ℕ → ℕ
 walkRun F flow [] = 0
 walkRun F flow (increment ∷ increments) = oneMore (isFlow F (flow + increment)) (walkRun F (flow + increment) increments)
@@ -42,7 +42,7 @@ walkRun F flow (increment ∷ increments) = oneMore (isFlow F (flow + increment)
 unfoldable pub isCall : List ℕ → ℕ → ℕ → Bool
 isCall characters flow base = eqb base (getD characters (flow - 1) 0) || eqb base 78
 
--- after flow position f, how many of the bases ys, with the increments xs, keep the rule
+-- after a flow position, how many of the bases, with their increments, keep the rule
 unfoldable pub callRun : List ℕ → ℕ → List ℕ → List ℕ → ℕ
 callRun characters flow [] bases = 0
 callRun characters flow (increment ∷ increments) [] = 0

@@ -15,7 +15,7 @@ use Rattle.sff_format.specs.Model.{Read}
 use Rattle.sff_format.specs.ReadTest.{sectionLength, nameLength, baseCount, qualityLeft, qualityRight, adapterLeft, adapterRight}
 use Rattle.sff_format.specs.Insert.{firstBase, lastBase, between}
 
--- the read at place p, of F flow values
+-- the read at a place, of F flow values
 unfoldable pub viewAt : ℕ → List ℕ → ℕ → ReadView
 viewAt F file place =
     let data-start = place + sectionLength file place in

@@ -5,7 +5,7 @@ use mathlib.Core.List.{List}
 use Rattle.sff_format.specs.ReadTest.{baseCount, qualityLeft, qualityRight, adapterLeft, adapterRight}
 use Rattle.sff_read.specs.declared.inner.ReadFields.{ReadFields}
 
--- r holds the fields of the read at place p, each below its width's limit
+-- these are the fields of the read at a place, each below its width's limit
 pub record FieldsAt (file : List ℕ) (place : ℕ) (fields : ReadFields) : Type 0 where
   pub bases-are : fields .bases ≡ baseCount file place
   pub quality-left-is : fields .«quality_left» .0 ≡ qualityLeft file place

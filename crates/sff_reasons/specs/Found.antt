@@ -10,7 +10,7 @@ use Rattle.sff_correction.specs.declared.Fields.{Fields}
 use Rattle.sff_correction.specs.Record.{recordTest}
 use Rattle.sff_correction.specs.Fields.{FieldsOf}
 
--- an accepted file b, and the fields x of a well-formed record r: the file has a read at their position
+-- an accepted file, and the fields of a well-formed record: the file has a read at their position
 pub record Found (file «record» : List ℕ) (fields : Fields) : Type 0 where
   pub bytes : Bytes file
   pub accepted : fileTest file ≡ Accepted

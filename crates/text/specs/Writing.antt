@@ -13,7 +13,7 @@ use Rattle.text.specs.declared.Written.{Written}
 unfoldable pub orDash : List ℕ → List ℕ
 orDash xs = cond (eqb (length xs) 0) (45 ∷ []) xs
 
--- what a function that puts xs at place `at` of l asks: that there is room for it
+-- what a function that puts xs at place `at` of a list asks: that there is room for it
 pub record Room (at : ℕ) (xs list : List ℕ) : Type 0 where
   pub fits : at + length xs ≤ length list
 

@@ -17,4 +17,5 @@ NoneHolds (reason ∷ reasons) = (reason .holds → ⊥) × NoneHolds reasons
 -- this is answered for the first reason that holds, or is acceptance where none does
 abbrev pub FirstHolds : List Reason → Answer → Type 0
 FirstHolds [] answer = answer ≡ Accepted
-FirstHolds (reason ∷ reasons) answer = (reason .holds × (answer ≡ reason .answer)) ⊎ ((reason .holds → ⊥) × FirstHolds reasons answer)
+FirstHolds (reason ∷ reasons) answer =
+    (reason .holds × (answer ≡ reason .answer)) ⊎ ((reason .holds → ⊥) × FirstHolds reasons answer)

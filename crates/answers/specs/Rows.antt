@@ -23,4 +23,5 @@ abbrev pub RowByRow : List Row → List Reason → Type 0
 RowByRow [] [] = Unit {0}
 RowByRow (row ∷ rows) [] = ⊥
 RowByRow [] (reason ∷ reasons) = ⊥
-RowByRow (row ∷ rows) (reason ∷ reasons) = ((row .1 ≡ true) ↔ reason .holds) × (reason .answer ≡ Refused (row .0) 0) × RowByRow rows reasons
+RowByRow (row ∷ rows) (reason ∷ reasons) =
+    ((row .1 ≡ true) ↔ reason .holds) × (reason .answer ≡ Refused (row .0) 0) × RowByRow rows reasons

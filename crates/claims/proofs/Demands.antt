@@ -81,7 +81,11 @@ pub each-answers : (call : Call) → Answers (row call)
 each-answers call =
     let n = row-numbers call in
     let listed = more-numbers (row call .numbers) documentNumbers (n .1) (row call .answer) (n .0) in
-    record { listed = listed; own = n .0; zero = (zero-accepted documentNumbers none-is-zero (row call .answer) listed, ap numberOf) }
+    record {
+      listed = listed;
+      own = n .0;
+      zero = (zero-accepted documentNumbers none-is-zero (row call .answer) listed, ap numberOf);
+    }
 
 -- "A refused correction changes no byte of the file's buffer;"
 -- The length is "the length given".
@@ -89,7 +93,8 @@ each-answers call =
 -- Shuts out:
 --   a corrector that writes though it refuses (sff_correction/written_though_refused)
 --   one that answers another length then (sff_correction/refused_length_is_0)
-pub refused-unchanged : (buffer : List ℕ) (len : ℕ) («record» : List ℕ) → (numberOf (correctOutcome buffer len «record» .answer) ≡ 0 → ⊥)
+pub refused-unchanged : (buffer : List ℕ) (len : ℕ) («record» : List ℕ)
+    → (numberOf (correctOutcome buffer len «record» .answer) ≡ 0 → ⊥)
     → (correctOutcome buffer len «record» .length ≡ len) × (correctBuffer buffer len «record» ≡ buffer)
 refused-unchanged = refused-left
 
@@ -105,7 +110,8 @@ refused-unchanged = refused-left
 --   an undo that leaves a buffer as it was (filters/second_not_zeroed, claims/refused_undo_leaves_the_second)
 --   a list that takes back what its earlier records did (claims/refused_list_changes_nothing)
 --   a text that is put though it is refused (text/put_though_refused)
-pub memory-after-refusal : (call : Call) → (numberOf (row call .answer) ≡ 0 → ⊥) → row call .memory ≡ row call .if-refused
+pub memory-after-refusal : (call : Call) → (numberOf (row call .answer) ≡ 0 → ⊥)
+    → row call .memory ≡ row call .if-refused
 memory-after-refusal = row-refused
 
 -- DEMAND 2
@@ -120,7 +126,10 @@ memory-after-refusal = row-refused
 --   padding that is not tested (sff_header/padding_not_tested)
 --   a base that is not the flow's (sff_walk/any_base)
 pub accepted-exactly : (file : List ℕ) → (Bytes file × (numberOf (fileTest file) ≡ 0)) ↔ IsFile file
-accepted-exactly file = ((λ t. accepted file .0 (t .0, file-zero file (t .1))), (λ t. (accepted file .1 t .0, ap numberOf (accepted file .1 t .1))))
+accepted-exactly file = (
+  (λ t. accepted file .0 (t .0, file-zero file (t .1))),
+  (λ t. (accepted file .1 t .0, ap numberOf (accepted file .1 t .1))),
+)
 
 -- and it is then that one alone
 pub one-meaning : (content other : File) → Valid content → Valid other → layout content ≡ layout other → content ≡ other
@@ -135,7 +144,8 @@ one-meaning = one-file
 --   one that lays parts out in another order (sff_sections/qualities_before_bases, sff_sections/clips_changed_about)
 --   a reader that stays or leaps (sff_format/step_stays, sff_reader/step_past_two)
 --   an accessor that hands out another part (sff_view/bases_are_increments)
-pub written-and-read-back : (content : File) → content .index ≡ noIndex → Valid content → (buffer : List ℕ) → length (layout content) ≤ length buffer
+pub written-and-read-back : (content : File) → content .index ≡ noIndex → Valid content → (buffer : List ℕ)
+    → length (layout content) ≤ length buffer
     → readBack (take (writeEach buffer content .outcome .length) (writeEach buffer content .buffer)) ≡ content .reads
 written-and-read-back = written-back
 
@@ -149,8 +159,10 @@ written-and-read-back = written-back
 --   names without padding (sff_format/names_unpadded)
 --   the key before the flow characters (sff_sections/key_first, sff_format/key_first)
 --   another format code (sff_sections/format_code_0)
-pub read-and-written-again : (file : List ℕ) → Bytes file → fileTest file ≡ Accepted → declared (indexOffset file) (indexLength file) ≡ false → (buffer : List ℕ) → length file ≤ length buffer
-    → writeEach buffer (record { flow-characters = fileFlowCharacters file; key = fileKey file; index = noIndex; reads = readBack file })
+pub read-and-written-again : (file : List ℕ) → Bytes file → fileTest file ≡ Accepted
+    → declared (indexOffset file) (indexLength file) ≡ false → (buffer : List ℕ) → length file ≤ length buffer
+    → writeEach buffer
+    (record { flow-characters = fileFlowCharacters file; key = fileKey file; index = noIndex; reads = readBack file })
     ≡ record { outcome = record { answer = Accepted; length = length file }; buffer = putAt 0 file buffer }
 read-and-written-again = written-again
 
@@ -165,20 +177,28 @@ read-and-written-again = written-again
 --   samples at one level (scf_samples/one_level_only)
 pub record EachFilter : Type 0 where
   -- "undoes its own encoding": for every format, level and follow bytes that encoding accepts, wherever the data fit
-  pub undone : (room room' format level : ℕ) (follow source : List ℕ) → Bytes source → Bytes follow → numberOf (encode room format level follow source .answer) ≡ 0 → length source ≤ room'
+  pub undone : (room room' format level : ℕ) (follow source : List ℕ) → Bytes source → Bytes follow
+      → numberOf (encode room format level follow source .answer) ≡ 0 → length source ≤ room'
       → undoLayer room' (encode room format level follow source .bytes) ≡ making source
   -- and for SCF samples of either precision
-  pub samples-undone : (room room' precision : ℕ) (source : List ℕ) → Bytes source → numberOf (encodeSamples room precision source .answer) ≡ 0 → length source ≤ room'
+  pub samples-undone : (room room' precision : ℕ) (source : List ℕ) → Bytes source
+      → numberOf (encodeSamples room precision source .answer) ≡ 0 → length source ≤ room'
       → undoSamples room' precision (encodeSamples room precision source .bytes) ≡ making source
   -- "as the ZTR and SCF rules define it": what encoding gives is what these ask, unit by unit
-  pub by-ztr : (room level : ℕ) (follow source : List ℕ) → Bytes source → Bytes follow → EncodedByRule room level follow source
-  pub by-scf : (room precision : ℕ) (source : List ℕ) → Bytes source → numberOf (encodeSamples room precision source .answer) ≡ 0
+  pub by-ztr : (room level : ℕ) (follow source : List ℕ) → Bytes source → Bytes follow
+      → EncodedByRule room level follow source
+  pub by-scf : (room precision : ℕ) (source : List ℕ) → Bytes source
+      → numberOf (encodeSamples room precision source .answer) ≡ 0
       → DeltaOf [] precision 2 source (encodeSamples room precision source .bytes)
 
 pub each-filter : EachFilter
 each-filter = record {
-  undone = λ room room' format level follow source source-bytes follow-bytes carried fits. undo-after-encode room room' format level follow source source-bytes follow-bytes (encode-zero room format level follow source carried) fits;
-  samples-undone = λ room room' precision source source-bytes carried fits. undo-after-encode-samples room room' precision source source-bytes fits (encode-samples-zero room precision source carried);
+  undone = λ room room' format level follow source source-bytes follow-bytes carried fits.
+      undo-after-encode room room' format level follow source source-bytes follow-bytes
+      (encode-zero room format level follow source carried) fits;
+  samples-undone = λ room room' precision source source-bytes carried fits.
+      undo-after-encode-samples room room' precision source source-bytes fits
+      (encode-samples-zero room precision source carried);
   by-ztr = encoded-by-rule;
   by-scf = samples-by-rule;
 }
@@ -196,21 +216,29 @@ each-filter = record {
 --   one that overwrites reads not yet moved (splice/low_end_first)
 --   one that leaves what is freed (splice/freed_bytes_left)
 --   one that still counts a read taken out (sff_edit/count_not_lowered)
-pub record OneRecordOn (buffer : List ℕ) (len : ℕ) («record» : List ℕ) (correction : Correction) (content new : File) : Type 0 where
+pub record OneRecordOn (buffer : List ℕ) (len : ℕ) («record» : List ℕ)
+    (correction : Correction) (content new : File) : Type 0 where
   -- "Whatever bytes are lent as the file and as a correction record, and whatever file length is stated, the correction
   -- is carried out, with number 0, exactly when none of document 01's reasons to refuse holds."
-  pub carried-out : (numberOf (correctOutcome buffer len «record» .answer) ≡ 0) ↔ NoneHolds (reasonsAgainst buffer len «record»)
+  pub carried-out : (numberOf (correctOutcome buffer len «record» .answer) ≡ 0)
+      ↔ NoneHolds (reasonsAgainst buffer len «record»)
   -- "Otherwise it answers the first that holds, in document 01's order."
   pub else-first : FirstHolds (reasonsAgainst buffer len «record») (correctOutcome buffer len «record» .answer)
   -- with another number than 0: the length given, and every byte as it was
-  pub refused : (numberOf (correctOutcome buffer len «record» .answer) ≡ 0 → ⊥) → (correctOutcome buffer len «record» .length ≡ len) × (correctBuffer buffer len «record» ≡ buffer)
+  pub refused : (numberOf (correctOutcome buffer len «record» .answer) ≡ 0 → ⊥)
+      → (correctOutcome buffer len «record» .length ≡ len) × (correctBuffer buffer len «record» ≡ buffer)
   -- "Once carried out, the file is, byte for byte, what writing afresh gives": `new`, laid out; then zeros up to the
   -- longer of both lengths, and the rest of the buffer as it was
   pub afresh : numberOf (correctOutcome buffer len «record» .answer) ≡ 0
-      → (correctOutcome buffer len «record» .length ≡ length (layout new)) × (correctBuffer buffer len «record» ≡ settled (layout new) (max len (length (layout new))) buffer)
+      → (correctOutcome buffer len «record» .length ≡ length (layout new))
+      × (correctBuffer buffer len «record» ≡ settled (layout new) (max len (length (layout new))) buffer)
   -- "from the same header, any index, and the same reads with that one read changed or left out."
-  pub same-header : (new .flow-characters ≡ content .flow-characters) × (new .key ≡ content .key) × (new .index ≡ content .index)
-  pub same-reads : new .reads ≡ take (correction .position) (content .reads) ++ instead (correction .change) (readAt content (correction .position)) ++ drop (suc (correction .position)) (content .reads)
+  pub same-header : (new .flow-characters ≡ content .flow-characters) × (new .key ≡ content .key)
+      × (new .index ≡ content .index)
+  pub same-reads : new .reads
+      ≡ take (correction .position) (content .reads)
+      ++ instead (correction .change) (readAt content (correction .position))
+      ++ drop (suc (correction .position)) (content .reads)
   -- "Every other read's sections keep their bytes and their order.": so does all that stands before that read and after
   -- it, but for the count at 20
   pub others-kept : numberOf (correctOutcome buffer len «record» .answer) ≡ 0
@@ -218,15 +246,20 @@ pub record OneRecordOn (buffer : List ℕ) (len : ℕ) («record» : List ℕ) (
       ≡ putAt 20 (bytesOf 4 (length (new .reads)))
       (
       take (readPlace (take len buffer) (correction .position)) (take len buffer)
-      ++ (layoutReads (instead (correction .change) (readAt content (correction .position))) ++ drop (readPlace (take len buffer) (correction .position) + length (layoutRead (readAt content (correction .position)))) (take len buffer))
+      ++ (layoutReads (instead (correction .change) (readAt content (correction .position)))
+      ++ drop (readPlace (take len buffer) (correction .position) + length (layoutRead (readAt content (correction .position))))
+      (take len buffer))
       )
   -- and that file keeps the rules
   pub valid : numberOf (correctOutcome buffer len «record» .answer) ≡ 0 → Valid new
 
 abbrev pub OneRecord : List ℕ → ℕ → List ℕ → Type 0
-OneRecord buffer len «record» = OneRecordOn buffer len «record» (parseRecord «record») (parse (take len buffer)) (edited (parseRecord «record») (parse (take len buffer)))
+OneRecord buffer len «record» =
+    OneRecordOn buffer len «record» (parseRecord «record») (parse (take len buffer))
+    (edited (parseRecord «record») (parse (take len buffer)))
 
-pub one-record : (buffer : List ℕ) (len : ℕ) («record» : List ℕ) → Bytes buffer → Bytes «record» → OneRecord buffer len «record»
+pub one-record : (buffer : List ℕ) (len : ℕ) («record» : List ℕ) → Bytes buffer → Bytes «record»
+    → OneRecord buffer len «record»
 unfolding edited
 one-record buffer len «record» y z = record {
   carried-out = carried-exactly buffer len «record» y z;
@@ -240,7 +273,8 @@ one-record buffer len «record» y z = record {
 }
 
 -- `FirstHolds` leaves no choice: one answer alone is that of the first reason that holds
-pub one-answer : (reasons : List Reason) (answer other : Answer) → FirstHolds reasons answer → FirstHolds reasons other → answer ≡ other
+pub one-answer : (reasons : List Reason) (answer other : Answer) → FirstHolds reasons answer → FirstHolds reasons other
+    → answer ≡ other
 one-answer = one-first
 
 -- "what writing afresh gives": a file without index that is corrected in place is the one that a new file and an append
@@ -249,10 +283,14 @@ one-answer = one-first
 -- Shuts out:
 --   a corrector and a writer that lay a read out each in its own way (sff_edit/name_length_not_written,
 --   sff_sections/name_for_the_bases)
-pub in-place-is-afresh : (buffer : List ℕ) (len : ℕ) («record» : List ℕ) → Bytes buffer → Bytes «record» → numberOf (correctOutcome buffer len «record» .answer) ≡ 0 → parse (take len buffer) .index ≡ noIndex
+pub in-place-is-afresh : (buffer : List ℕ) (len : ℕ) («record» : List ℕ) → Bytes buffer → Bytes «record»
+    → numberOf (correctOutcome buffer len «record» .answer) ≡ 0 → parse (take len buffer) .index ≡ noIndex
     → (other : List ℕ) → length (layout (edited (parseRecord «record») (parse (take len buffer)))) ≤ length other
     → writeEach other (edited (parseRecord «record») (parse (take len buffer)))
-    ≡ record { outcome = correctOutcome buffer len «record»; buffer = putAt 0 (take (correctOutcome buffer len «record» .length) (correctBuffer buffer len «record»)) other }
+    ≡ record {
+      outcome = correctOutcome buffer len «record»;
+      buffer = putAt 0 (take (correctOutcome buffer len «record» .length) (correctBuffer buffer len «record»)) other;
+    }
 in-place-is-afresh = corrected-written
 
 -- Every list, in one claim: `content` is what the file says, `all` how many records there are, `count` the count that
@@ -264,28 +302,39 @@ in-place-is-afresh = corrected-written
 --   one that judges each record on the file, or its length, at the start (sff_correction/file_of_the_start,
 --   sff_correction/length_of_the_start)
 --   one that goes on from a place where no read starts (sff_corrector/mark_elsewhere)
-pub record WholeList (buffer : List ℕ) (len : ℕ) (list : List ℕ) (content : File) (all count : ℕ) (before : ℕ → Run) : Type 0 where
+pub record WholeList (buffer : List ℕ) (len : ℕ) (list : List ℕ)
+    (content : File) (all count : ℕ) (before : ℕ → Run) : Type 0 where
   -- "For every list of whole records, run on any accepted file, those carried out are exactly the ones before the first
   -- for which a reason to refuse holds in its turn,"
   pub carried-out : (k : ℕ) → k < count → NoneHolds (reasonsInTurn (length buffer) k list content)
   pub refused : count < all → NoneHolds (reasonsInTurn (length buffer) count list content) → ⊥
-  pub else-first : count < all → FirstHolds (reasonsInTurn (length buffer) count list content) (runList buffer len list .outcome .answer)
+  pub else-first : count < all
+      → FirstHolds (reasonsInTurn (length buffer) count list content) (runList buffer len list .outcome .answer)
   -- "or all if there is none; the count is how many they are."
   pub most : count ≤ all
   pub all-of-them : count ≡ all → runList buffer len list .outcome .answer ≡ Accepted
   -- "in its turn": each record runs on the buffer and length that those before it left; the first refusal ends the list
   pub next : (k : ℕ) → k < count
-      → before (suc k) ≡ ran (suc k) Accepted (correctOutcome (before k .buffer) (before k .outcome .length) (recordAt k list) .length) (correctBuffer (before k .buffer) (before k .outcome .length) (recordAt k list))
+      → before (suc k)
+      ≡ ran (suc k) Accepted (correctOutcome (before k .buffer) (before k .outcome .length) (recordAt k list) .length)
+      (correctBuffer (before k .buffer) (before k .outcome .length) (recordAt k list))
   pub last : count < all
-      → runList buffer len list ≡ ran count (correctOutcome (before count .buffer) (before count .outcome .length) (recordAt count list) .answer) (before count .outcome .length) (before count .buffer)
+      → runList buffer len list
+      ≡ ran count (correctOutcome (before count .buffer) (before count .outcome .length) (recordAt count list) .answer)
+      (before count .outcome .length) (before count .buffer)
   -- document 01: "Demand 3 holds of each record in its turn"
   pub each : (k : ℕ) → k ≤ count → k < all → OneRecord (before k .buffer) (before k .outcome .length) (recordAt k list)
   -- of its reasons 14 and the file's refusal never hold then, which is why `reasonsInTurn` has the others alone
-  pub reasons : (k : ℕ) → k ≤ count → NoneHolds (reasonsAgainst (before k .buffer) (before k .outcome .length) (recordAt k list)) ↔ NoneHolds (reasonsInTurn (length buffer) k list content)
+  pub reasons : (k : ℕ) → k ≤ count
+      → NoneHolds (reasonsAgainst (before k .buffer) (before k .outcome .length) (recordAt k list))
+      ↔ NoneHolds (reasonsInTurn (length buffer) k list content)
   -- "The file is then what writing afresh gives from its header, any index, and the reads as these records, one after
   -- the other, have left them."
-  pub file : take (runList buffer len list .outcome .length) (runList buffer len list .buffer) ≡ layout (fileAfter count (correctionAt list) content)
-  pub same-header : (fileAfter count (correctionAt list) content .flow-characters ≡ content .flow-characters) × (fileAfter count (correctionAt list) content .key ≡ content .key) × (fileAfter count (correctionAt list) content .index ≡ content .index)
+  pub file : take (runList buffer len list .outcome .length) (runList buffer len list .buffer)
+      ≡ layout (fileAfter count (correctionAt list) content)
+  pub same-header : (fileAfter count (correctionAt list) content .flow-characters ≡ content .flow-characters)
+      × (fileAfter count (correctionAt list) content .key ≡ content .key)
+      × (fileAfter count (correctionAt list) content .index ≡ content .index)
   -- and it keeps the rules
   pub valid : Valid (fileAfter count (correctionAt list) content)
 
@@ -296,7 +345,8 @@ pub record EveryList (buffer : List ℕ) (len : ℕ) (list : List ℕ) : Type 0 
   pub whole : runList buffer len list ≡ listAfresh buffer len list
   -- whole records on an accepted file
   pub on-file : len ≤ length buffer → fileTest (take len buffer) ≡ Accepted → length list % 96 ≡ 0
-      → WholeList buffer len list (parse (take len buffer)) (length list / 96) (runList buffer len list .outcome .count) (λ k. runList buffer len (firstRecords k list))
+      → WholeList buffer len list (parse (take len buffer)) (length list / 96)
+      (runList buffer len list .outcome .count) (λ k. runList buffer len (firstRecords k list))
 
 pub list-corrected : (buffer : List ℕ) (len : ℕ) (list : List ℕ) → Bytes buffer → Bytes list → EveryList buffer len list
 list-corrected buffer len list y z = record {
@@ -309,7 +359,8 @@ list-corrected buffer len list y z = record {
     all-of-them = all-carried buffer len list y z h e w;
     next = on-in-turn buffer len list y z h e w;
     last = stop-in-turn buffer len list y z h e w;
-    each = λ k i j. one-record _ _ (recordAt k list) (bytes-in-turn buffer len list y z h e w k i) (bytes-part (96 * k) 96 list z);
+    each = λ k i j.
+        one-record _ _ (recordAt k list) (bytes-in-turn buffer len list y z h e w k i) (bytes-part (96 * k) 96 list z);
     reasons = reasons-in-turn buffer len list y z h e w;
     file = list-file buffer len list y z h e w;
     same-header = header-kept (runList buffer len list .outcome .count) (correctionAt list) (parse (take len buffer));

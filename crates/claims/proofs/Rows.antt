@@ -26,7 +26,8 @@ use Rattle.unfiltering.specs.Unfiltering.{unfilterText}
 use Rattle.claims.specs.Calls.{Call, file-test, header-test, flow-characters, key, reader-fresh, reader-step, view-test, view-name, view-values, view-increments, view-bases, view-qualities, view-insert, first-base, last-base, position-test, insert, insert-ends, signal-test, signal, new-file, append, record-test, correct, correct-list, undo-block, undo-layer, encode-layer, encode-samples, undo-samples, list-file, print-listing, report-run, report-too-long, print-block, sffstore-test, sffstore-correct, row, zeros, documentNumbers}
 
 -- one of its own numbers, all of which document 01 has
-pub row-numbers : (call : Call) → Among (row call .numbers) (row call .answer) × (within (row call .numbers) documentNumbers ≡ true)
+pub row-numbers : (call : Call)
+    → Among (row call .numbers) (row call .answer) × (within (row call .numbers) documentNumbers ≡ true)
 unfolding newOutcome appendOutcome among
 row-numbers (file-test file) = (file-numbers file, refl)
 row-numbers (header-test file) = (header-numbers file, refl)
@@ -55,14 +56,16 @@ row-numbers (correct buffer len «record») = (outcome-numbers buffer len «reco
 row-numbers (correct-list buffer len list) = (list-numbers buffer len list, refl)
 row-numbers (undo-block block first second) = (undo-numbers (roomOf first second) block, refl)
 row-numbers (undo-layer block first second) = (layer-numbers (roomOf first second) block, refl)
-row-numbers (encode-layer format level follow source out) = (encode-numbers (length out) format level follow source, refl)
+row-numbers (encode-layer format level follow source out) =
+    (encode-numbers (length out) format level follow source, refl)
 row-numbers (encode-samples precision source out) = (encode-samples-numbers (length out) precision source, refl)
 row-numbers (undo-samples precision source out) = (undo-samples-numbers (length out) precision source, refl)
 row-numbers (list-file file out) = (fitted-numbers (length out) (listing file), refl)
 row-numbers (print-listing input out) = (fitted-numbers (length out) (printed input), refl)
 row-numbers (report-run outcome out) = (fitted-numbers (length out) (reported outcome), refl)
 row-numbers (report-too-long out) = (fitted-numbers (length out) tooLong, refl)
-row-numbers (print-block input first second) = (fitted-numbers (length first) (unfilterText (roomOf first second) input), refl)
+row-numbers (print-block input first second) =
+    (fitted-numbers (length first) (unfilterText (roomOf first second) input), refl)
 row-numbers (sffstore-test file) = (file-numbers file, refl)
 row-numbers (sffstore-correct buffer len «record») = (outcome-numbers buffer len «record», refl)
 
@@ -108,13 +111,21 @@ row-refused (correct buffer len «record») h = ap (λ (x : List ℕ). x ∷ [])
 row-refused (correct-list buffer len list) h = ap (λ (x : List ℕ). x ∷ []) (earlier-left buffer len list)
 row-refused (undo-block block first second) h = zeroed _ first second (undo-none (roomOf first second) block h)
 row-refused (undo-layer block first second) h = zeroed _ first second (layer-none (roomOf first second) block h)
-row-refused (encode-layer format level follow source out) h = rw (encode-none (length out) format level follow source h) (ap (λ (x : List ℕ). x ∷ []) (put-nil 0 out))
-row-refused (encode-samples precision source out) h = rw (encode-samples-none (length out) precision source h) (ap (λ (x : List ℕ). x ∷ []) (put-nil 0 out))
-row-refused (undo-samples precision source out) h = rw (undo-samples-none (length out) precision source h) (ap (λ (x : List ℕ). x ∷ []) (put-nil 0 out))
-row-refused (list-file file out) h = rw (fitted-none (length out) (listing file) h) (ap (λ (x : List ℕ). x ∷ []) (put-nil 0 out))
-row-refused (print-listing input out) h = rw (fitted-none (length out) (printed input) h) (ap (λ (x : List ℕ). x ∷ []) (put-nil 0 out))
-row-refused (report-run outcome out) h = rw (fitted-none (length out) (reported outcome) h) (ap (λ (x : List ℕ). x ∷ []) (put-nil 0 out))
+row-refused (encode-layer format level follow source out) h =
+    rw (encode-none (length out) format level follow source h) (ap (λ (x : List ℕ). x ∷ []) (put-nil 0 out))
+row-refused (encode-samples precision source out) h =
+    rw (encode-samples-none (length out) precision source h) (ap (λ (x : List ℕ). x ∷ []) (put-nil 0 out))
+row-refused (undo-samples precision source out) h =
+    rw (undo-samples-none (length out) precision source h) (ap (λ (x : List ℕ). x ∷ []) (put-nil 0 out))
+row-refused (list-file file out) h =
+    rw (fitted-none (length out) (listing file) h) (ap (λ (x : List ℕ). x ∷ []) (put-nil 0 out))
+row-refused (print-listing input out) h =
+    rw (fitted-none (length out) (printed input) h) (ap (λ (x : List ℕ). x ∷ []) (put-nil 0 out))
+row-refused (report-run outcome out) h =
+    rw (fitted-none (length out) (reported outcome) h) (ap (λ (x : List ℕ). x ∷ []) (put-nil 0 out))
 row-refused (report-too-long out) h = rw (fitted-none (length out) tooLong h) (ap (λ (x : List ℕ). x ∷ []) (put-nil 0 out))
-row-refused (print-block input first second) h = zeroed _ first second (fitted-none (length first) (unfilterText (roomOf first second) input) h)
+row-refused (print-block input first second) h =
+    zeroed _ first second (fitted-none (length first) (unfilterText (roomOf first second) input) h)
 row-refused (sffstore-test file) h = refl
-row-refused (sffstore-correct buffer len «record») h = ap (λ (x : List ℕ). x ∷ []) (refused-left buffer len «record» h .1)
+row-refused (sffstore-correct buffer len «record») h =
+    ap (λ (x : List ℕ). x ∷ []) (refused-left buffer len «record» h .1)

@@ -32,11 +32,14 @@ pub written-then-read : (content : File) → Valid content → parse (layout con
 written-then-read = file-back
 
 -- each read of an accepted file: its place is a sum of sizes, and its sections stand there
-pub place-of-read : (file : List ℕ) → Bytes file → fileTest file ≡ Accepted → (position : ℕ) → position < readCount file → readPlace file position ≡ place (parse file) position
+pub place-of-read : (file : List ℕ) → Bytes file → fileTest file ≡ Accepted → (position : ℕ) → position < readCount file
+    → readPlace file position ≡ place (parse file) position
 place-of-read = place-found
 
 pub split-at-read : (file : List ℕ) → Bytes file → fileTest file ≡ Accepted → (position : ℕ) → position < readCount file
-    → file ≡ take (readPlace file position) file ++ (layoutRead (readAt (parse file) position) ++ drop (readPlace file position + length (layoutRead (readAt (parse file) position))) file)
+    → file ≡ take (readPlace file position) file
+    ++ (layoutRead (readAt (parse file) position)
+    ++ drop (readPlace file position + length (layoutRead (readAt (parse file) position))) file)
 split-at-read = read-split
 
 -- NARROWINGS AND FLOW WALK. The rules of a read, each from the numbers alone: `ValidRead`, in document 01's words
@@ -60,11 +63,13 @@ pub record ReadKeeps (characters : List ℕ) (read : Read) : Type 0 where
   pub adapter-right : read .adapter-right ≤ length (read .bases)
   -- "Base i is the flow character at its flow, or the letter N": that at its flow position, counted from 1, or 78
   pub base : (j : ℕ) → j < length (read .bases)
-      → (getD (read .bases) j 0 ≡ getD characters (flowPosition (read .increments) j - 1) 0) ⊎ (getD (read .bases) j 0 ≡ 78)
+      → (getD (read .bases) j 0 ≡ getD characters (flowPosition (read .increments) j - 1) 0)
+      ⊎ (getD (read .bases) j 0 ≡ 78)
   -- "The running sum after each base is its flow position; every flow position lies in 1 to F": that of base j,
   -- counted from 0, is the sum of the first j + 1 increments (`flowPosition`)
   pub flow : (j : ℕ) → j < length (read .bases)
-      → (1 ≤ sum _+_ 0 (take (suc j) (read .increments))) × (sum _+_ 0 (take (suc j) (read .increments)) ≤ length characters)
+      → (1 ≤ sum _+_ 0 (take (suc j) (read .increments)))
+      × (sum _+_ 0 (take (suc j) (read .increments)) ≤ length characters)
 
 pub rules-of-read : (characters : List ℕ) (read : Read) → ValidRead characters read ↔ ReadKeeps characters read
 unfolding leftLimit rightLimit
@@ -83,11 +88,14 @@ rules-of-read characters read = (
     quality-right = v .quality-right-good;
     adapter-left = v .adapter-left-good;
     adapter-right = v .adapter-right-good;
-    base = calls-exactly characters (read .increments) (read .bases) (v .walk-good) (v .increments-count) .0 (v .bases-good);
+    base =
+        calls-exactly characters (read .increments) (read .bases) (v .walk-good) (v .increments-count) .0
+        (v .bases-good);
     flow = λ j h. walk-exactly (length characters) (read .increments) .0 (v .walk-good) j (rw (v .increments-count) h);
   },
   λ k.
-      let w = walk-exactly (length characters) (read .increments) .1 (λ j h. k .flow j (rw (k .increment-count) at h)) in
+      let w =
+      walk-exactly (length characters) (read .increments) .1 (λ j h. k .flow j (rw (k .increment-count) at h)) in
       record {
         name-good = at-every isNameByte (read .name) (λ j h. name-byte _ .1 (k .name-bytes j h));
         name-fits = let h = k .name-length in omega arith;
@@ -116,7 +124,8 @@ pub record FileKeeps (content : File) : Type 0 where
   -- fields of 2, 4, 8 and 4 bytes; of the header, "5 (F+K over 65,497)"
   pub header-length : length (content .flow-characters) + length (content .key) ≤ 65497
   pub read-count : length (content .reads) ≤ 4294967295
-  pub index-fits : (content .index .offset < 256 ^ 8) × (length (content .index .bytes) < 4294967296) × Bytes (content .index .bytes)
+  pub index-fits : (content .index .offset < 256 ^ 8) × (length (content .index .bytes) < 4294967296)
+      × Bytes (content .index .bytes)
   -- "An index is absent when offset and length are both 0", else none of "just one index field is 0, or index length
   -- under 8 or not a multiple of 8"
   pub index : GoodIndex (content .index .offset) (length (content .index .bytes))
@@ -125,7 +134,8 @@ pub record FileKeeps (content : File) : Type 0 where
   -- "flow and key characters are A, C, G, T"
   pub flow-letters : (j : ℕ) → j < length (content .flow-characters) → OneOfFour (getD (content .flow-characters) j 0)
   pub key-letters : (j : ℕ) → j < length (content .key) → OneOfFour (getD (content .key) j 0)
-  pub reads : (position : ℕ) → position < length (content .reads) → ReadKeeps (content .flow-characters) (readAt content position)
+  pub reads : (position : ℕ) → position < length (content .reads)
+      → ReadKeeps (content .flow-characters) (readAt content position)
 
 pub rules-of-file : (content : File) → Valid content ↔ FileKeeps content
 rules-of-file content =
@@ -138,26 +148,35 @@ rules-of-file content =
         index-fits = v .index-fits;
         index = index-fine o n .0 (v .index-good);
         index-stands = λ h. v .index-met (declared-exactly o n .1 (λ z. let e = z .0 in omega arith));
-        flow-letters = λ j h. flow-character _ .0 (every-at isFlowCharacter cs (every-left isFlowCharacter cs (content .key) (v .characters-good)) j h);
-        key-letters = λ j h. flow-character _ .0 (every-at isFlowCharacter (content .key) (every-right isFlowCharacter cs (content .key) (v .characters-good)) j h);
-        reads = λ position h. rules-of-read cs (readAt content position) .0 (valid-at cs (content .reads) position h (v .reads-good));
+        flow-letters = λ j h.
+            flow-character _ .0
+            (every-at isFlowCharacter cs (every-left isFlowCharacter cs (content .key) (v .characters-good)) j h);
+        key-letters = λ j h.
+            flow-character _ .0
+            (every-at isFlowCharacter (content .key) (every-right isFlowCharacter cs (content .key) (v .characters-good)) j h);
+        reads = λ position h.
+            rules-of-read cs (readAt content position) .0 (valid-at cs (content .reads) position h (v .reads-good));
       },
       λ k. record {
         characters-good =
-            every-both isFlowCharacter cs (content .key) (at-every isFlowCharacter cs (λ j h. flow-character _ .1 (k .flow-letters j h)))
+            every-both isFlowCharacter cs (content .key)
+            (at-every isFlowCharacter cs (λ j h. flow-character _ .1 (k .flow-letters j h)))
             (at-every isFlowCharacter (content .key) (λ j h. flow-character _ .1 (k .key-letters j h)));
         header-fits = let h = k .header-length in omega arith;
         count-fits = let h = k .read-count in omega arith;
         index-fits = k .index-fits;
         index-good = index-fine o n .1 (k .index);
         index-met = λ d. ⊎-elim (λ z. absurd (declared-exactly o n .0 d z)) (λ g. k .index-stands (g .0)) (k .index);
-        reads-good = each-valid cs (content .reads) (λ position h. rules-of-read cs (readAt content position) .1 (k .reads position h));
+        reads-good =
+            each-valid cs (content .reads)
+            (λ position h. rules-of-read cs (readAt content position) .1 (k .reads position h));
       },
     )
 
 -- so a file is accepted exactly if it is, byte for byte, one that keeps the rules in these words, written afresh; and
 -- each read that it then says keeps them
-pub accepted-in-words : (file : List ℕ) → (Bytes file × (fileTest file ≡ Accepted)) ↔ ((content : File) × FileKeeps content × (layout content ≡ file))
+pub accepted-in-words : (file : List ℕ)
+    → (Bytes file × (fileTest file ≡ Accepted)) ↔ ((content : File) × FileKeeps content × (layout content ≡ file))
 accepted-in-words file = (
   λ t. let x = accepted file .0 t in (x .0, rules-of-file (x .0) .0 (x .1), x .2),
   λ x. accepted file .1 (x .0, rules-of-file (x .0) .1 (x .1), x .2),
@@ -165,4 +184,5 @@ accepted-in-words file = (
 
 pub read-in-words : (file : List ℕ) → Bytes file → fileTest file ≡ Accepted → (position : ℕ) → position < readCount file
     → ReadKeeps (flowCharacters file) (readAt (parse file) position)
-read-in-words file y e position h = rules-of-read (flowCharacters file) (readAt (parse file) position) .0 (read-keeps file y e position h)
+read-in-words file y e position h =
+    rules-of-read (flowCharacters file) (readAt (parse file) position) .0 (read-keeps file y e position h)

@@ -35,13 +35,17 @@ pub record Listed (file : List ℕ) : Type 0 where
   pub count : length lines ≡ length (parse file .reads)
   -- with a space between them, and the end of the line
   pub line : (position : ℕ) → position < length (parse file .reads) → getD lines position []
-      ≡ decimal position ++ (32 ∷ []) ++ orDash (readAt (parse file) position .name) ++ (32 ∷ []) ++ decimal (length (readAt (parse file) position .bases)) ++ (32 ∷ [])
-      ++ decimal (insertFirst (readAt (parse file) position)) ++ (32 ∷ []) ++ decimal (insertLast (readAt (parse file) position)) ++ (32 ∷ [])
+      ≡ decimal position ++ (32 ∷ []) ++ orDash (readAt (parse file) position .name) ++ (32 ∷ [])
+      ++ decimal (length (readAt (parse file) position .bases)) ++ (32 ∷ [])
+      ++ decimal (insertFirst (readAt (parse file) position)) ++ (32 ∷ [])
+      ++ decimal (insertLast (readAt (parse file) position)) ++ (32 ∷ [])
       ++ orDash (insertOf (readAt (parse file) position) (readAt (parse file) position .bases)) ++ (10 ∷ [])
   -- "flows ", " key ", " reads "
   pub text : printed file
-      ≡ (102 ∷ 108 ∷ 111 ∷ 119 ∷ 115 ∷ 32 ∷ []) ++ decimal (length (parse file .flow-characters)) ++ (32 ∷ 107 ∷ 101 ∷ 121 ∷ 32 ∷ []) ++ orDash (parse file .key)
-      ++ (32 ∷ 114 ∷ 101 ∷ 97 ∷ 100 ∷ 115 ∷ 32 ∷ []) ++ decimal (length (parse file .reads)) ++ (10 ∷ []) ++ flatten lines
+      ≡ (102 ∷ 108 ∷ 111 ∷ 119 ∷ 115 ∷ 32 ∷ []) ++ decimal (length (parse file .flow-characters))
+      ++ (32 ∷ 107 ∷ 101 ∷ 121 ∷ 32 ∷ []) ++ orDash (parse file .key)
+      ++ (32 ∷ 114 ∷ 101 ∷ 97 ∷ 100 ∷ 115 ∷ 32 ∷ []) ++ decimal (length (parse file .reads)) ++ (10 ∷ [])
+      ++ flatten lines
 
 pub text-of-file : (file : List ℕ) → length file ≤ 65536 → fileTest file ≡ Accepted → Listed file
 unfolding fileLines
@@ -51,7 +55,10 @@ text-of-file file h e = record {
   line = λ position l. rw zero-add at (line-at 0 (parse file .reads) position l) ∙ read-line position _ _ _ _ _;
   text =
       printed-accepted file h e
-      ∙ rw (header-line (length (parse file .flow-characters)) (parse file .key) (length (parse file .reads)), lines-together 0 (parse file .reads));
+      ∙ rw (
+        header-line (length (parse file .flow-characters)) (parse file .key) (length (parse file .reads)),
+        lines-together 0 (parse file .reads),
+      );
 }
 
 -- the number that decimal digits spell is the number: every number in these lines is of 64 bits
@@ -64,7 +71,9 @@ dash-for-empty xs = (dash xs, word xs)
 
 -- "A refusal is one line and nothing else, as `refused 9 at 48`"
 pub text-of-refusal : (file : List ℕ) (number place : ℕ) → length file ≤ 65536 → fileTest file ≡ Refused number place
-    → printed file ≡ (114 ∷ 101 ∷ 102 ∷ 117 ∷ 115 ∷ 101 ∷ 100 ∷ 32 ∷ []) ++ decimal number ++ (32 ∷ 97 ∷ 116 ∷ 32 ∷ []) ++ decimal place ++ (10 ∷ [])
+    → printed file
+    ≡ (114 ∷ 101 ∷ 102 ∷ 117 ∷ 115 ∷ 101 ∷ 100 ∷ 32 ∷ []) ++ decimal number ++ (32 ∷ 97 ∷ 116 ∷ 32 ∷ [])
+    ++ decimal place ++ (10 ∷ [])
 text-of-refusal file number place h e = printed-refused file number place h e ∙ refusal-line number place
 
 -- E with a clip of 4 prints that line
@@ -72,11 +81,13 @@ pub refusal-of-clip : printed (set eBytes 49 4) ≡ 114 ∷ 101 ∷ 102 ∷ 117 
 refusal-of-clip = text-of-clip
 
 -- "longer input than 65,536 bytes prints `too long`"
-pub text-too-long : (file : List ℕ) → 65536 < length file → printed file ≡ 116 ∷ 111 ∷ 111 ∷ 32 ∷ 108 ∷ 111 ∷ 110 ∷ 103 ∷ 10 ∷ []
+pub text-too-long : (file : List ℕ) → 65536 < length file
+    → printed file ≡ 116 ∷ 111 ∷ 111 ∷ 32 ∷ 108 ∷ 111 ∷ 110 ∷ 103 ∷ 10 ∷ []
 text-too-long = printed-long
 
 -- the lister's buffer (`listing::print_room`) holds any of these texts, so its answer is 0 throughout
-pub text-fits : (file : List ℕ) → Bytes file → fitted 458816 (printed file) ≡ record { answer = Accepted; text = printed file }
+pub text-fits : (file : List ℕ) → Bytes file
+    → fitted 458816 (printed file) ≡ record { answer = Accepted; text = printed file }
 text-fits file y = fits 458816 (printed file) (printed-most file y)
 
 -- and in any buffer a text is refused, with 26, exactly if it is longer

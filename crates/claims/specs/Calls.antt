@@ -154,11 +154,15 @@ row (insert-ends file position) = reading (positionTest file position) positionN
 row (signal-test file position) = reading (signalTest file position) signalNumbers
 row (signal file position) = reading (signalTest file position) signalNumbers
 -- "A refusal changes nothing"
-row (new-file buffer characters key-characters) = writing (newOutcome buffer characters key-characters .answer) newNumbers (newBuffer buffer characters key-characters) buffer
-row (append buffer len read) = writing (appendOutcome buffer len read .answer) appendNumbers (appendBuffer buffer len read) buffer
+row (new-file buffer characters key-characters) =
+    writing (newOutcome buffer characters key-characters .answer) newNumbers
+    (newBuffer buffer characters key-characters) buffer
+row (append buffer len read) =
+    writing (appendOutcome buffer len read .answer) appendNumbers (appendBuffer buffer len read) buffer
 row (record-test «record») = reading (recordTest «record») recordNumbers
 -- "A refused correction changes no byte of the file's buffer"
-row (correct buffer len «record») = writing (correctOutcome buffer len «record» .answer) correctNumbers (correctBuffer buffer len «record») buffer
+row (correct buffer len «record») =
+    writing (correctOutcome buffer len «record» .answer) correctNumbers (correctBuffer buffer len «record») buffer
 -- "The first refusal ends it; earlier ones stand": the buffer as a list of these alone leaves it
 row (correct-list buffer len list) = record {
   answer = runList buffer len list .outcome .answer;
@@ -181,11 +185,14 @@ row (undo-layer block first second) = record {
 }
 -- "in that order, changing nothing"
 row (encode-layer format level follow source out) =
-    writing (encode (length out) format level follow source .answer) encodeNumbers (outAfter (encode (length out) format level follow source) out) out
+    writing (encode (length out) format level follow source .answer) encodeNumbers
+    (outAfter (encode (length out) format level follow source) out) out
 row (encode-samples precision source out) =
-    writing (encodeSamples (length out) precision source .answer) samplesNumbers (outAfter (encodeSamples (length out) precision source) out) out
+    writing (encodeSamples (length out) precision source .answer) samplesNumbers
+    (outAfter (encodeSamples (length out) precision source) out) out
 row (undo-samples precision source out) =
-    writing (undoSamples (length out) precision source .answer) samplesNumbers (outAfter (undoSamples (length out) precision source) out) out
+    writing (undoSamples (length out) precision source .answer) samplesNumbers
+    (outAfter (undoSamples (length out) precision source) out) out
 -- 26 exactly if the text is longer than the buffer, which is then as it was; or zero, where it is one of an undo's
 row (list-file file out) = putting (listing file) out
 row (print-listing input out) = putting (printed input) out
@@ -198,7 +205,8 @@ row (print-block input first second) = record {
   if-refused = zeros first ∷ zeros second ∷ [];
 }
 row (sffstore-test file) = reading (fileTest file) fileNumbers
-row (sffstore-correct buffer len «record») = writing (correctOutcome buffer len «record» .answer) correctNumbers (correctBuffer buffer len «record») buffer
+row (sffstore-correct buffer len «record») =
+    writing (correctOutcome buffer len «record» .answer) correctNumbers (correctBuffer buffer len «record») buffer
 
 -- every number of document 01: "Order of the file's tests", "Writing", "Correction records", "Filtered blocks"
 abbrev pub documentNumbers : List ℕ

@@ -31,9 +31,12 @@ abbrev pub Holds : Case → Type 0
 Holds (written content file) = layout content ≡ file
 Holds (sized file n) = length file ≡ n
 Holds (tested file answer) = fileTest file ≡ answer
-Holds (inserted file position first last bases) = (fileFirst file position ≡ first) × (fileLast file position ≡ last) × (fileInsert file position ≡ bases)
-Holds (corrected buffer len «record» outcome after) = (correctOutcome buffer len «record» ≡ outcome) × (correctBuffer buffer len «record» ≡ after)
-Holds (filtered format level source block) = (encode (length block) format level [] source ≡ making block) × (undoLayer (length source) block ≡ making source)
+Holds (inserted file position first last bases) =
+    (fileFirst file position ≡ first) × (fileLast file position ≡ last) × (fileInsert file position ≡ bases)
+Holds (corrected buffer len «record» outcome after) =
+    (correctOutcome buffer len «record» ≡ outcome) × (correctBuffer buffer len «record» ≡ after)
+Holds (filtered format level source block) =
+    (encode (length block) format level [] source ≡ making block) × (undoLayer (length source) block ≡ making source)
 
 abbrev pub All : List Case → Type 0
 All [] = Unit {0}

@@ -83,7 +83,8 @@ badLevel level = not (leb 1 level && leb level 3)
 -- "42 level or zeros wrong"
 unfoldable pub badHeader : Filter → List ℕ → Bool
 badHeader Raw block = false
-badHeader (Delta width) block = badLevel (levelAt block) || ltb (firstNot isZero 2 (headerLength (Delta width)) block) (headerLength (Delta width))
+badHeader (Delta width) block =
+    badLevel (levelAt block) || ltb (firstNot isZero 2 (headerLength (Delta width)) block) (headerLength (Delta width))
 badHeader (Narrow width) block = false
 badHeader Follow block = false
 badHeader Other block = false

@@ -50,4 +50,6 @@ undeltaBytes width level source = unitBytes width (undeltas (range width) level 
 -- document 02 (vi), of each pass of the undo: "it turns the units of some data at one level into those of the same data at one level less, level 0 being the data"
 abbrev pub OneLevelLess : ℕ → List ℕ → List ℕ → Type 0
 OneLevelLess width before after =
-    (level : ℕ) (units : List ℕ) → Below (range width) units → before ≡ unitBytes width (deltas (range width) (suc level) units) → after ≡ unitBytes width (deltas (range width) level units)
+    (level : ℕ) (units : List ℕ) → Below (range width) units
+    → before ≡ unitBytes width (deltas (range width) (suc level) units)
+    → after ≡ unitBytes width (deltas (range width) level units)

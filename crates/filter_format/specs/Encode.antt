@@ -35,7 +35,8 @@ encodedData Other level follow source = []
 
 -- the block that one layer over the data makes
 unfoldable pub encoded : ℕ → ℕ → List ℕ → List ℕ → List ℕ
-encoded format level follow source = format ∷ (headerRest (filterOf format) level follow ++ encodedData (filterOf format) level follow source)
+encoded format level follow source =
+    format ∷ (headerRest (filterOf format) level follow ++ encodedData (filterOf format) level follow source)
 
 -- "42 (level, or follow bytes not 256 for 72)": the level is judged for 64 to 66 alone, the follow bytes for 72 alone
 unfoldable pub badGiven : Filter → ℕ → List ℕ → Bool
@@ -63,7 +64,8 @@ encodeTest room format level follow source =
 
 -- that block, or its refusal
 unfoldable pub encode : ℕ → ℕ → ℕ → List ℕ → List ℕ → Result
-encode room format level follow source = tested (encodeTest room format level follow source) (encoded format level follow source)
+encode room format level follow source =
+    tested (encodeTest room format level follow source) (encoded format level follow source)
 
 -- the lent buffer afterwards: "changing nothing; success writes the block only"
 abbrev pub outAfter : Result → List ℕ → List ℕ

@@ -12,7 +12,8 @@ least width = range width - 127
 
 -- "-127 to 127 as one byte, else byte 128 and the unit whole": 0 to 127, and the units from `least` on, are -127 to 127
 unfoldable pub narrowUnit : ℕ → ℕ → List ℕ
-narrowUnit width unit = cond (leb unit 127) (unit ∷ []) (cond (leb (least width) unit) (unit % 256 ∷ []) (128 ∷ bytesOf width unit))
+narrowUnit width unit =
+    cond (leb unit 127) (unit ∷ []) (cond (leb (least width) unit) (unit % 256 ∷ []) (128 ∷ bytesOf width unit))
 
 -- the units one after another
 unfoldable pub narrow : ℕ → List ℕ → List ℕ
@@ -26,7 +27,8 @@ extended width byte = cond (ltb byte 128) byte (range width - 256 + byte)
 -- the way back: the bytes of the units, where `due` bytes of a whole unit are still to come
 unfoldable pub widen : ℕ → ℕ → List ℕ → List ℕ
 widen width due [] = []
-widen width zero (byte ∷ rest) = cond (eqb byte 128) [] (bytesOf width (extended width byte)) ++ widen width (cond (eqb byte 128) width 0) rest
+widen width zero (byte ∷ rest) =
+    cond (eqb byte 128) [] (bytesOf width (extended width byte)) ++ widen width (cond (eqb byte 128) width 0) rest
 widen width (suc due) (byte ∷ rest) = byte ∷ widen width due rest
 
 -- "128 with too few bytes after it": how many bytes of a whole unit are lacking at the end of the same walk

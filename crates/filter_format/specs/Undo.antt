@@ -44,7 +44,8 @@ unfoldable pub undoFrom : ℕ → ℕ → List ℕ → Result
 undoFrom zero room block = tested (blockTest 0 room block) (undone (filterAt block) block)
 undoFrom (suc left) room block =
     acceptedOr (blockTest (suc left) room block)
-    (cond (isRaw (filterAt block)) (making (undone (filterAt block) block)) (undoFrom left room (undone (filterAt block) block)))
+    (cond (isRaw (filterAt block)) (making (undone (filterAt block) block))
+    (undoFrom left room (undone (filterAt block) block)))
     (refusing (blockTest (suc left) room block))
 
 -- "eight at most"

@@ -70,8 +70,10 @@ steppedWith number place at passed index-passed read-start name-length bases cli
 -- a step's answer as numbers; those of a read are 0 where there is none
 unfoldable pub steppedOf : Step → Stepped
 steppedOf (found view next) =
-    steppedWith 0 0 (next .place) (next .passed-reads) (flag (next .passed-index)) (view .place) (view .name .size) (view .bases .size) (viewClips view)
-steppedOf (stop number place state) = steppedWith number place (state .place) (state .passed-reads) (flag (state .passed-index)) 0 0 0 0
+    steppedWith 0 0 (next .place) (next .passed-reads) (flag (next .passed-index)) (view .place) (view .name .size)
+    (view .bases .size) (viewClips view)
+steppedOf (stop number place state) =
+    steppedWith number place (state .place) (state .passed-reads) (flag (state .passed-index)) 0 0 0 0
 
 -- bytes at the front of a buffer that has room for them; one that has not stays as it is
 unfoldable pub putFront : List ℕ → List ℕ → List ℕ

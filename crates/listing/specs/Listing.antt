@@ -16,7 +16,9 @@ use Rattle.lines.specs.Lines.{headerLine, readLine, refusalLine, tooLong}
 
 -- "A read's line is position, name, N, first, last, insert"
 abbrev pub lineOf : ℕ → Read → List ℕ
-lineOf position read = readLine position (read .name) (length (read .bases)) (insertFirst read) (insertLast read) (insertOf read (read .bases))
+lineOf position read =
+    readLine position (read .name) (length (read .bases)) (insertFirst read) (insertLast read)
+    (insertOf read (read .bases))
 
 -- the lines of reads from a position on
 unfoldable pub linesFrom : ℕ → List Read → List ℕ
@@ -25,7 +27,9 @@ linesFrom position (read ∷ reads) = lineOf position read ++ linesFrom (suc pos
 
 -- as "flows 4 key T reads 1", then the lines of the reads
 unfoldable pub fileLines : File → List ℕ
-fileLines content = headerLine (length (content .flow-characters)) (content .key) (length (content .reads)) ++ linesFrom 0 (content .reads)
+fileLines content =
+    headerLine (length (content .flow-characters)) (content .key) (length (content .reads))
+    ++ linesFrom 0 (content .reads)
 
 -- "A refusal is one line and nothing else"
 unfoldable pub listed : Answer → List ℕ → List ℕ
@@ -46,4 +50,6 @@ printed file = cond (ltb 65536 (length file)) tooLong (listing file)
 
 -- what the code puts for a read: its line, from its places in the file
 unfoldable pub viewLine : List ℕ → ℕ → ReadView → List ℕ
-viewLine file position view = readLine position (bytesIn file (view .name)) (view .bases .size) (viewFirst view) (viewLast view) (insertIn view (bytesIn file (view .bases)))
+viewLine file position view =
+    readLine position (bytesIn file (view .name)) (view .bases .size) (viewFirst view) (viewLast view)
+    (insertIn view (bytesIn file (view .bases)))

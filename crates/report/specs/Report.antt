@@ -11,7 +11,8 @@ use Rattle.lines.specs.Lines.{refusalLine, answerLine}
 
 -- "The answer has their count and the number, place and length of the last record tried"
 abbrev pub answered : ListOutcome → List ℕ
-answered outcome = answerLine (outcome .count) (numberOf (outcome .answer)) (placeOf (outcome .answer)) (outcome .length)
+answered outcome =
+    answerLine (outcome .count) (numberOf (outcome .answer)) (placeOf (outcome .answer)) (outcome .length)
 
 -- a refusal's line, as the lister prints it
 unfoldable pub refusal : Answer → List ℕ

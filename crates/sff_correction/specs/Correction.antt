@@ -34,7 +34,8 @@ pub record ValidName (name : List ℕ) : Type 0 where
   pub good : Every isNameByte name
 
 abbrev pub ValidChange : Change → Type 0
-ValidChange (clips quality-left quality-right adapter-left adapter-right) = Words (quality-left ∷ quality-right ∷ adapter-left ∷ adapter-right ∷ [])
+ValidChange (clips quality-left quality-right adapter-left adapter-right) =
+    Words (quality-left ∷ quality-right ∷ adapter-left ∷ adapter-right ∷ [])
 ValidChange (rename name) = ValidName name
 ValidChange remove = Unit {0}
 

@@ -35,7 +35,8 @@ renamed name read = record {
 
 -- what comes in the place of the read: one read, or none
 unfoldable pub instead : Change → Read → List Read
-instead (clips quality-left quality-right adapter-left adapter-right) read = clipped quality-left quality-right adapter-left adapter-right read ∷ []
+instead (clips quality-left quality-right adapter-left adapter-right) read =
+    clipped quality-left quality-right adapter-left adapter-right read ∷ []
 instead (rename name) read = renamed name read ∷ []
 instead remove read = []
 
@@ -45,4 +46,6 @@ target correction content = readAt content (correction .position)
 
 -- the file as the correction, carried out, leaves it: header, index and all other reads as they were
 unfoldable pub edited : Correction → File → File
-edited correction content = withReads (replaced (correction .position) (instead (correction .change) (target correction content)) (content .reads)) content
+edited correction content =
+    withReads (replaced (correction .position) (instead (correction .change) (target correction content)) (content .reads))
+    content

@@ -43,14 +43,16 @@ pub record ClipsWithin (n new-quality-left new-quality-right new-adapter-left ne
 
 -- the change gives clips that are not
 abbrev pub NewClipAbove : ℕ → Change → Type 0
-NewClipAbove n (clips quality-left quality-right adapter-left adapter-right) = ClipsWithin n quality-left quality-right adapter-left adapter-right → ⊥
+NewClipAbove n (clips quality-left quality-right adapter-left adapter-right) =
+    ClipsWithin n quality-left quality-right adapter-left adapter-right → ⊥
 NewClipAbove n (rename name) = ⊥
 NewClipAbove n remove = ⊥
 
 -- the change gives a name that another read than the one at that position bears
 abbrev pub Borne : Change → ℕ → File → Type 0
 Borne (clips quality-left quality-right adapter-left adapter-right) position content = ⊥
-Borne (rename name) position content = (other : ℕ) × (other < length (content .reads)) × (other ≡ position → ⊥) × (readAt content other .name ≡ name)
+Borne (rename name) position content =
+    (other : ℕ) × (other < length (content .reads)) × (other ≡ position → ⊥) × (readAt content other .name ≡ name)
 Borne remove position content = ⊥
 
 -- the correction's own on a file, in a buffer of so many bytes
@@ -63,11 +65,20 @@ ownReasons room correction content =
     -- "25 rename or remove with an index"
     ∷ record { holds = RenameOrRemove (correction .change) × (content .index ≡ noIndex → ⊥); answer = Refused 25 0 }
     -- "23 new clip above N"
-    ∷ record { holds = Present correction content × NewClipAbove (length (target correction content .bases)) (correction .change); answer = Refused 23 0 }
+    ∷ record {
+      holds = Present correction content × NewClipAbove (length (target correction content .bases)) (correction .change);
+      answer = Refused 23 0;
+    }
     -- "24 rename to a name that another read bears"
-    ∷ record { holds = Present correction content × Borne (correction .change) (correction .position) content; answer = Refused 24 0 }
+    ∷ record {
+      holds = Present correction content × Borne (correction .change) (correction .position) content;
+      answer = Refused 24 0;
+    }
     -- "26 no room"
-    ∷ record { holds = Present correction content × (room < length (layout (edited correction content))); answer = Refused 26 0 }
+    ∷ record {
+      holds = Present correction content × (room < length (layout (edited correction content)));
+      answer = Refused 26 0;
+    }
     ∷ []
 
 -- "Order, place 0 for the record's own: 14; 20 record malformed or not 96 bytes; the file's refusal", and then these.

@@ -36,17 +36,21 @@ reasonFor room k list content = recordTest (recordAt k list) then reasons room (
 -- the same in words of the model: 14 and the file's refusal are not among them, since a record that was carried out
 -- leaves an accepted file in the buffer
 abbrev pub reasonsInTurn : ℕ → ℕ → List ℕ → File → List Reason
-reasonsInTurn room k list content = malformed (recordAt k list) ∷ ownReasons room (correctionAt list k) (fileAfter k (correctionAt list) content)
+reasonsInTurn room k list content =
+    malformed (recordAt k list) ∷ ownReasons room (correctionAt list k) (fileAfter k (correctionAt list) content)
 
 -- the first of the m positions from k on for which a reason holds in its turn, or their end
 unfoldable pub firstRefused : ℕ → ℕ → ℕ → List ℕ → File → ℕ
 firstRefused zero k room list content = k
-firstRefused (suc m) k room list content = let more = firstRefused m (suc k) room list content in acceptedOr (reasonFor room k list content) more k
+firstRefused (suc m) k room list content =
+    let more = firstRefused m (suc k) room list content in
+    acceptedOr (reasonFor room k list content) more k
 
 -- the greatest length that the file had while the first n of the corrections were carried out
 unfoldable pub greatest : ℕ → (ℕ → Correction) → File → ℕ
 greatest zero corrections content = length (layout content)
-greatest (suc n) corrections content = max (greatest n corrections content) (length (layout (fileAfter (suc n) corrections content)))
+greatest (suc n) corrections content =
+    max (greatest n corrections content) (length (layout (fileAfter (suc n) corrections content)))
 
 -- what the last record tried was answered, where n of `all` were carried out
 unfoldable pub lastTried : ℕ → ℕ → ℕ → List ℕ → File → Answer
@@ -58,11 +62,13 @@ abbrev pub runOn : ℕ → ℕ → List ℕ → List ℕ → File → Run
 runOn all n buffer list content =
     let corrections = correctionAt list in
     let new = layout (fileAfter n corrections content) in
-    ran n (lastTried all n (length buffer) list content) (length new) (settled new (greatest n corrections content) buffer)
+    ran n (lastTried all n (length buffer) list content) (length new)
+    (settled new (greatest n corrections content) buffer)
 
 -- what is asked before any record's own reasons: 14, the first record's 20, the file's refusal
 unfoldable pub firstTest : List ℕ → ℕ → List ℕ → Answer
-firstTest buffer len list = when (ltb (length buffer) len) 14 0 then recordTest (recordAt 0 list) then fileTest (take len buffer)
+firstTest buffer len list =
+    when (ltb (length buffer) len) 14 0 then recordTest (recordAt 0 list) then fileTest (take len buffer)
 
 -- any list on any buffer with any stated length. "A list's length is a multiple of 96, else 20 before all else, with
 -- nothing done"; "An empty list is carried out with count 0, the file untested and the length as given"; one that
@@ -74,5 +80,9 @@ listAfresh buffer len list =
     cond (not (eqb (length list % 96) 0)) (ran 0 (Refused 20 0) len buffer)
     (
     cond (eqb (length list) 0) (ran 0 Accepted len buffer)
-    (acceptedOr (firstTest buffer len list) (runOn all (firstRefused all 0 (length buffer) list content) buffer list content) (ran 0 (firstTest buffer len list) len buffer))
+    (
+    acceptedOr (firstTest buffer len list)
+    (runOn all (firstRefused all 0 (length buffer) list content) buffer list content)
+    (ran 0 (firstTest buffer len list) len buffer)
+    )
     )

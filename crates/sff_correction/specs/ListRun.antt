@@ -39,4 +39,5 @@ turns (suc m) k buffer len list =
 
 -- "A list's length is a multiple of 96, else 20 before all else, with nothing done"
 unfoldable pub runList : List ℕ → ℕ → List ℕ → Run
-runList buffer len list = cond (eqb (length list % 96) 0) (turns (length list / 96) 0 buffer len list) (ran 0 (Refused 20 0) len buffer)
+runList buffer len list =
+    cond (eqb (length list % 96) 0) (turns (length list / 96) 0 buffer len list) (ran 0 (Refused 20 0) len buffer)

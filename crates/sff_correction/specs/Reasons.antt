@@ -22,7 +22,8 @@ hasTarget correction content = ltb (correction .position) (length (content .read
 
 -- some new clip is above what a read of n bases allows: what 9 refuses in a file
 unfoldable pub clipsAbove : ℕ → Change → Bool
-clipsAbove n (clips quality-left quality-right adapter-left adapter-right) = acceptedOr (clipTest 0 n quality-left quality-right adapter-left adapter-right) false true
+clipsAbove n (clips quality-left quality-right adapter-left adapter-right) =
+    acceptedOr (clipTest 0 n quality-left quality-right adapter-left adapter-right) false true
 clipsAbove n (rename name) = false
 clipsAbove n remove = false
 
@@ -51,15 +52,18 @@ otherName room correction content = hasTarget correction content && not (same (c
 
 -- "25 rename or remove with an index"
 unfoldable pub indexPresent : ℕ → Correction → File → Bool
-indexPresent room correction content = not (isClips (correction .change)) && declared (content .index .offset) (length (content .index .bytes))
+indexPresent room correction content =
+    not (isClips (correction .change)) && declared (content .index .offset) (length (content .index .bytes))
 
 -- "23 new clip above N"
 unfoldable pub clipAbove : ℕ → Correction → File → Bool
-clipAbove room correction content = hasTarget correction content && clipsAbove (length (target correction content .bases)) (correction .change)
+clipAbove room correction content =
+    hasTarget correction content && clipsAbove (length (target correction content .bases)) (correction .change)
 
 -- "24 rename to a name that another read bears"
 unfoldable pub nameBorne : ℕ → Correction → File → Bool
-nameBorne room correction content = hasTarget correction content && takesName (correction .change) (others correction content)
+nameBorne room correction content =
+    hasTarget correction content && takesName (correction .change) (others correction content)
 
 -- "26 no room" in a buffer of so many bytes for the file written afresh
 unfoldable pub noRoom : ℕ → Correction → File → Bool
@@ -68,8 +72,10 @@ noRoom room correction content = hasTarget correction content && ltb room (lengt
 -- in document 01's order
 abbrev pub reasonRows : ℕ → Correction → File → List Row
 reasonRows room correction content =
-    (21, positionAbove room correction content) ∷ (22, otherName room correction content) ∷ (25, indexPresent room correction content)
-    ∷ (23, clipAbove room correction content) ∷ (24, nameBorne room correction content) ∷ (26, noRoom room correction content) ∷ []
+    (21, positionAbove room correction content) ∷ (22, otherName room correction content)
+    ∷ (25, indexPresent room correction content)
+    ∷ (23, clipAbove room correction content) ∷ (24, nameBorne room correction content)
+    ∷ (26, noRoom room correction content) ∷ []
 
 -- the first that holds
 unfoldable pub reasons : ℕ → Correction → File → Answer

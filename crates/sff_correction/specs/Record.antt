@@ -60,7 +60,9 @@ newClipsTest «record» = cond (eqb (kind «record») 1) Accepted (unusedTest 8 
 
 -- a new name is used by kind 2 alone
 unfoldable pub newNameTest : List ℕ → Answer
-newNameTest «record» = cond (eqb (kind «record») 2) (nameFieldTest 56 (newLength «record») «record») (unusedTest 2 1 «record» then unusedTest 56 40 «record»)
+newNameTest «record» =
+    cond (eqb (kind «record») 2) (nameFieldTest 56 (newLength «record») «record»)
+    (unusedTest 2 1 «record» then unusedTest 56 40 «record»)
 
 -- "20 record malformed or not 96 bytes"
 unfoldable pub recordTest : List ℕ → Answer

@@ -22,21 +22,26 @@ nameOf (rename name) = name
 nameOf remove = []
 
 abbrev pub clipFields : ℕ → ℕ → ℕ → ℕ → List (ℕ × ℕ)
-clipFields quality-left quality-right adapter-left adapter-right = (2, quality-left) ∷ (2, quality-right) ∷ (2, adapter-left) ∷ (2, adapter-right) ∷ []
+clipFields quality-left quality-right adapter-left adapter-right =
+    (2, quality-left) ∷ (2, quality-right) ∷ (2, adapter-left) ∷ (2, adapter-right) ∷ []
 
 abbrev pub clipsOf : Change → List (ℕ × ℕ)
-clipsOf (clips quality-left quality-right adapter-left adapter-right) = clipFields quality-left quality-right adapter-left adapter-right
+clipsOf (clips quality-left quality-right adapter-left adapter-right) =
+    clipFields quality-left quality-right adapter-left adapter-right
 clipsOf (rename name) = clipFields 0 0 0 0
 clipsOf remove = clipFields 0 0 0 0
 
 -- "kind (0: ..), old name length (1), new name length (2), zero (3), position from 0 (4 to 7), four new clips (8 to 15,
 -- file order)"
 unfoldable pub recordFields : Correction → List (ℕ × ℕ)
-recordFields correction = (1, kindOf (correction .change)) ∷ (1, length (correction .old-name)) ∷ (1, length (nameOf (correction .change))) ∷ (1, 0) ∷ (4, correction .position) ∷ clipsOf (correction .change)
+recordFields correction =
+    (1, kindOf (correction .change)) ∷ (1, length (correction .old-name)) ∷ (1, length (nameOf (correction .change)))
+    ∷ (1, 0) ∷ (4, correction .position) ∷ clipsOf (correction .change)
 
 -- "old name (16 to 55), new name (56 to 95). Names .. zeros after"
 unfoldable pub layoutRecord : Correction → List ℕ
-layoutRecord correction = fields (recordFields correction) ++ filled 40 (correction .old-name) ++ filled 40 (nameOf (correction .change))
+layoutRecord correction =
+    fields (recordFields correction) ++ filled 40 (correction .old-name) ++ filled 40 (nameOf (correction .change))
 
 -- what a record's kind asks for
 unfoldable pub changeIn : List ℕ → Change

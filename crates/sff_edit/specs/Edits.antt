@@ -28,7 +28,8 @@ nameRoom n = up8 (16 + n) - 16
 -- two lengths that precede it
 unfoldable pub renamedAt : ℕ → ℕ → ℕ → List ℕ → List ℕ → List ℕ
 renamedAt place len n field buffer =
-    putAt place (bytesOf 2 (up8 (16 + n)) ++ bytesOf 2 n) (spliced (place + 16) (sectionLength buffer place - 16) len (take (nameRoom n) field) buffer)
+    putAt place (bytesOf 2 (up8 (16 + n)) ++ bytesOf 2 n)
+    (spliced (place + 16) (sectionLength buffer place - 16) len (take (nameRoom n) field) buffer)
 
 -- the read of `size` bytes cut out, and counted no more
 unfoldable pub removedAt : ℕ → ℕ → ℕ → List ℕ → List ℕ

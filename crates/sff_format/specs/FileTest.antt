@@ -40,7 +40,8 @@ endTest file place passed =
 
 -- "At each boundary: an index declared there and not yet passed is passed ..; else, if reads remain, a read is tested; else the end", with n reads that remain
 unfoldable pub boundaryTest : List ℕ → ℕ → ℕ → Bool → Answer
-boundaryTest file zero place passed = indexTest file place passed then endTest file (pastIndex file place passed) (nowPassed file place passed)
+boundaryTest file zero place passed =
+    indexTest file place passed then endTest file (pastIndex file place passed) (nowPassed file place passed)
 boundaryTest file (suc n) place passed =
     let at = pastIndex file place passed in
     let more = boundaryTest file n (readEnd (flows file) file at) (nowPassed file place passed) in

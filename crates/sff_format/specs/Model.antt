@@ -40,8 +40,10 @@ noIndex = record { offset = 0; bytes = [] }
 -- be 1)"
 unfoldable pub headerFields : File → List (ℕ × ℕ)
 headerFields content =
-    (4, 0x2E736666) ∷ (4, 1) ∷ (8, content .index .offset) ∷ (4, length (content .index .bytes)) ∷ (4, length (content .reads))
-    ∷ (2, up8 (31 + length (content .flow-characters) + length (content .key))) ∷ (2, length (content .key)) ∷ (2, length (content .flow-characters)) ∷ (1, 1) ∷ []
+    (4, 0x2E736666) ∷ (4, 1) ∷ (8, content .index .offset) ∷ (4, length (content .index .bytes))
+    ∷ (4, length (content .reads))
+    ∷ (2, up8 (31 + length (content .flow-characters) + length (content .key))) ∷ (2, length (content .key))
+    ∷ (2, length (content .flow-characters)) ∷ (1, 1) ∷ []
 
 -- "F flow characters, K key characters, zero padding to up8(31+F+K), which is the header length"
 unfoldable pub layoutHeader : File → List ℕ
@@ -76,11 +78,23 @@ layoutIndex index = filled (indexSize (length (index .bytes))) (index .bytes)
 -- "Writing afresh .. lays out, as above, a header from flow and key characters, the count being the number of reads,
 -- then the sections of a list of reads in order. An index stands at its offset"
 unfoldable pub layout : File → List ℕ
-layout content = insertAt (content .index .offset) (layoutIndex (content .index)) (layoutHeader content ++ layoutReads (content .reads))
+layout content =
+    insertAt (content .index .offset) (layoutIndex (content .index))
+    (layoutHeader content ++ layoutReads (content .reads))
 
 -- the same file with other reads, and with another index
 abbrev pub withReads : List Read → File → File
-withReads reads content = record { flow-characters = content .flow-characters; key = content .key; index = content .index; reads = reads }
+withReads reads content = record {
+  flow-characters = content .flow-characters;
+  key = content .key;
+  index = content .index;
+  reads = reads;
+}
 
 abbrev pub withIndex : Index → File → File
-withIndex index content = record { flow-characters = content .flow-characters; key = content .key; index = index; reads = content .reads }
+withIndex index content = record {
+  flow-characters = content .flow-characters;
+  key = content .key;
+  index = index;
+  reads = content .reads;
+}

@@ -40,7 +40,9 @@ place content position =
 -- where it starts, found from a boundary on: past any index, and past as many reads as its position says
 unfoldable pub placeFrom : List ℕ → ℕ → ℕ → Bool → ℕ
 placeFrom file zero boundary passed = pastIndex file boundary passed
-placeFrom file (suc position) boundary passed = placeFrom file position (readEnd (flows file) file (pastIndex file boundary passed)) (nowPassed file boundary passed)
+placeFrom file (suc position) boundary passed =
+    placeFrom file position (readEnd (flows file) file (pastIndex file boundary passed))
+    (nowPassed file boundary passed)
 
 unfoldable pub readPlace : List ℕ → ℕ → ℕ
 readPlace file position = placeFrom file position (headerLength file) false

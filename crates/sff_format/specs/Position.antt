@@ -26,7 +26,9 @@ viewOf file position = viewAt (flows file) file (readPlace file position)
 
 -- "the insert's bases are handed over as a stretch of the caller's own file"; refused, "the stretch is then empty"
 unfoldable pub fileInsert : List ℕ → ℕ → List ℕ
-fileInsert file position = acceptedOr (positionTest file position) (insertIn (viewOf file position) (bytesIn file (viewOf file position .bases))) []
+fileInsert file position =
+    acceptedOr (positionTest file position)
+    (insertIn (viewOf file position) (bytesIn file (viewOf file position .bases))) []
 
 -- its first and last base; refused, those of a read without bases, whose insert is empty
 unfoldable pub fileFirst : List ℕ → ℕ → ℕ

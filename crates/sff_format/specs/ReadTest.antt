@@ -61,14 +61,16 @@ dataTest characters file place n =
     let F = length characters in
     when (ltb (length file) (place + up8 (2 * F + 3 * n))) 1 place
     then shifted (place + 2 * F) (basesTest characters (part (place + 2 * F) n file) (part (place + 2 * F + n) n file))
-    then stopped 7 (firstNot isZero (place + (2 * F + 3 * n)) (place + up8 (2 * F + 3 * n)) file) (place + up8 (2 * F + 3 * n))
+    then stopped 7 (firstNot isZero (place + (2 * F + 3 * n)) (place + up8 (2 * F + 3 * n)) file)
+    (place + up8 (2 * F + 3 * n))
 
 -- "Read: 1 (under 16 bytes), 5, 1, 6, 7, 9, 1 (data), 10, 11, 7"
 unfoldable pub readTest : List ℕ → List ℕ → ℕ → Answer
 readTest characters file place =
     when (ltb (length file) (place + 16)) 1 place
     then nameTest file place (sectionLength file place) (nameLength file place)
-    then clipTest place (baseCount file place) (qualityLeft file place) (qualityRight file place) (adapterLeft file place) (adapterRight file place)
+    then clipTest place (baseCount file place) (qualityLeft file place) (qualityRight file place)
+    (adapterLeft file place) (adapterRight file place)
     then dataTest characters file (place + sectionLength file place) (baseCount file place)
 
 -- where a read of F flow values ends

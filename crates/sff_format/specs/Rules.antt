@@ -36,7 +36,8 @@ isFlow F flow = leb 1 flow && leb flow F
 -- "Index bytes are increments. The running sum after each base is its flow position": after a flow position, how many of them keep the rule
 unfoldable pub walkRun : ℕ → ℕ → List ℕ → ℕ
 walkRun F flow [] = 0
-walkRun F flow (increment ∷ increments) = oneMore (isFlow F (flow + increment)) (walkRun F (flow + increment) increments)
+walkRun F flow (increment ∷ increments) =
+    oneMore (isFlow F (flow + increment)) (walkRun F (flow + increment) increments)
 
 -- "Base i is the flow character at its flow, or the letter N"
 unfoldable pub isCall : List ℕ → ℕ → ℕ → Bool
@@ -47,4 +48,5 @@ unfoldable pub callRun : List ℕ → ℕ → List ℕ → List ℕ → ℕ
 callRun characters flow [] bases = 0
 callRun characters flow (increment ∷ increments) [] = 0
 callRun characters flow (increment ∷ increments) (base ∷ bases) =
-    oneMore (isFlow (length characters) (flow + increment) && isCall characters (flow + increment) base) (callRun characters (flow + increment) increments bases)
+    oneMore (isFlow (length characters) (flow + increment) && isCall characters (flow + increment) base)
+    (callRun characters (flow + increment) increments bases)

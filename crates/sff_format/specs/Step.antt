@@ -70,7 +70,8 @@ stepAnswer (found view next) = Accepted
 stepAnswer (stop number place state) = Refused number place
 
 unfoldable pub step : List ℕ → State → Step
-step file state = concluded (stepTest file state) (viewAt (flows file) file (boundary file state)) (moved file state) state
+step file state =
+    concluded (stepTest file state) (viewAt (flows file) file (boundary file state)) (moved file state) state
 
 -- what a state that steps on and on is refused with, within k steps
 unfoldable pub onStop : (State → Answer) → Step → Answer

@@ -41,7 +41,8 @@ ValidReads characters (read ∷ reads) = ValidRead characters read × ValidReads
 
 -- "where the offset says, at the end of the header or of a read"
 abbrev pub Boundary : File → ℕ → Type 0
-Boundary content place = (k : ℕ) × (place ≡ length (layoutHeader content) + length (layoutReads (take k (content .reads))))
+Boundary content place =
+    (k : ℕ) × (place ≡ length (layoutHeader content) + length (layoutReads (take k (content .reads))))
 
 pub record Valid (content : File) : Type 0 where
   -- "flow and key characters are A, C, G, T"
@@ -49,11 +50,13 @@ pub record Valid (content : File) : Type 0 where
   -- fields of 2, 4, 8 and 4 bytes
   pub header-fits : up8 (31 + length (content .flow-characters) + length (content .key)) < 65536
   pub count-fits : length (content .reads) < 4294967296
-  pub index-fits : (content .index .offset < 256 ^ 8) × (length (content .index .bytes) < 4294967296) × Bytes (content .index .bytes)
+  pub index-fits : (content .index .offset < 256 ^ 8) × (length (content .index .bytes) < 4294967296)
+      × Bytes (content .index .bytes)
   -- not "just one index field is 0, or index length under 8 or not a multiple of 8"
   pub index-good : badIndex (content .index .offset) (length (content .index .bytes)) ≡ false
   -- an index stands "at the end of the header or of a read"
-  pub index-met : declared (content .index .offset) (length (content .index .bytes)) ≡ true → Boundary content (content .index .offset)
+  pub index-met : declared (content .index .offset) (length (content .index .bytes)) ≡ true
+      → Boundary content (content .index .offset)
   pub reads-good : ValidReads (content .flow-characters) (content .reads)
 
 -- "keeps the SFF rules": the bytes are such a file, written afresh

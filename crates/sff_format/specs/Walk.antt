@@ -18,7 +18,10 @@ firstBoundary file = record { place = headerLength file; passed = false }
 
 -- where the next read starts: "an index declared there and not yet passed is passed .., to the boundary at its end"
 abbrev pub readStart : List ℕ → Boundary → Boundary
-readStart file at = record { place = pastIndex file (at .place) (at .passed); passed = nowPassed file (at .place) (at .passed) }
+readStart file at = record {
+  place = pastIndex file (at .place) (at .passed);
+  passed = nowPassed file (at .place) (at .passed);
+}
 
 -- the boundary at the end of a read, from the one where it starts
 abbrev pub nextBoundary : List ℕ → Boundary → Boundary

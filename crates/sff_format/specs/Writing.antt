@@ -66,10 +66,12 @@ badCounts F values increments bases qualities =
 -- 30, 5, 6, 9, 10, 11: a read for a file with these flow characters
 unfoldable pub givenTest : List ℕ → Read → Answer
 givenTest characters read =
-    when (badCounts (length characters) (length (read .values)) (length (read .increments)) (length (read .bases)) (length (read .qualities))) 30 0
+    when (badCounts (length characters) (length (read .values)) (length (read .increments))
+    (length (read .bases)) (length (read .qualities))) 30 0
     then when (ltb 65512 (length (read .name))) 5 0
     then when (fails isNameByte (read .name)) 6 0
-    then own (clipTest 0 (length (read .bases)) (read .quality-left) (read .quality-right) (read .adapter-left) (read .adapter-right))
+    then own (clipTest 0 (length (read .bases)) (read .quality-left) (read .quality-right)
+    (read .adapter-left) (read .adapter-right))
     then own (basesTest characters (read .increments) (read .bases))
 
 -- the file's own refusal; "25 an index is present; 31 reads already 4,294,967,295"
@@ -106,7 +108,10 @@ abbrev pub newIn : List ℕ → List ℕ → List ℕ → Left
 newIn buffer flow-characters key = record { outcome = newOutcome buffer flow-characters key; buffer = newBuffer buffer flow-characters key }
 
 abbrev pub appendTo : Left → Read → Left
-appendTo left read = record { outcome = appendOutcome (left .buffer) (left .outcome .length) read; buffer = appendBuffer (left .buffer) (left .outcome .length) read }
+appendTo left read = record {
+  outcome = appendOutcome (left .buffer) (left .outcome .length) read;
+  buffer = appendBuffer (left .buffer) (left .outcome .length) read;
+}
 
 -- an append for each read, up to one that is refused
 unfoldable pub appendEach : Left → List Read → Left

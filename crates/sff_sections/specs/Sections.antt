@@ -8,7 +8,9 @@ use Rattle.sff_format.specs.declared.Clips.{Clips}
 
 -- "quality left, quality right, adapter left, adapter right (2 each, in that order)"
 unfoldable pub clipFields : Clips → List (ℕ × ℕ)
-clipFields clips = (2, clips .«quality_left») ∷ (2, clips .«quality_right») ∷ (2, clips .«adapter_left») ∷ (2, clips .«adapter_right») ∷ []
+clipFields clips =
+    (2, clips .«quality_left») ∷ (2, clips .«quality_right») ∷ (2, clips .«adapter_left») ∷ (2, clips .«adapter_right»)
+    ∷ []
 
 -- "its length (2), name length L (2), bases N (4)", and the clips
 unfoldable pub sectionFields : ℕ → ℕ → Clips → List (ℕ × ℕ)

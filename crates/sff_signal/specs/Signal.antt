@@ -49,4 +49,5 @@ zeros = record { strongest = none; weakest = none; mean = none }
 
 -- "Signal summary of a read with F ≥ 1 .. Refusals: the file's, 21, 32; all three are then 0.0"
 unfoldable pub fileSignal : List ℕ → ℕ → Summary
-fileSignal file position = acceptedOr (signalTest file position) (summaryOf (readAt (parse file) position .values)) zeros
+fileSignal file position =
+    acceptedOr (signalTest file position) (summaryOf (readAt (parse file) position .values)) zeros

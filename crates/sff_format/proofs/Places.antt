@@ -148,7 +148,7 @@ module _ (file : List ℕ) (y : Bytes file) (e : fileTest file ≡ Accepted) (po
   unfolding own
   back-is = drop-rest (readPlace file position) own (at .back) file rest-is
 
-  -- an accepted file at read i: what stands before it, its sections, and what stands after
+  -- an accepted file at the read at that position: what stands before it, its sections, and what stands after
   pub read-split : file ≡ take (readPlace file position) file ++ (layoutRead (readAt (parse file) position) ++ drop (readPlace file position + length (layoutRead (readAt (parse file) position))) file)
   unfolding own
   read-split = rw (front-is, back-is) is

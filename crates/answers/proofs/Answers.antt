@@ -140,7 +140,7 @@ unfolding own
 ok-own a e = rw e
 
 -- what is chosen where a test has another number than 0
-pub refused-or : {A : Type 0} (a : Answer) (x y : A) → (numberOf a ≡ 0 → ⊥) → acceptedOr a x y ≡ y
+pub refused-or : {A : Type 0} (answer : Answer) (x y : A) → (numberOf answer ≡ 0 → ⊥) → acceptedOr answer x y ≡ y
 unfolding acceptedOr
 refused-or Accepted x y h = absurd (h refl)
 refused-or (Refused n p) x y h = refl

@@ -55,12 +55,13 @@ among-within n (m ∷ ns) ms w h = go (eqb n m) refl h (among-within n ns ms (an
     go true e k f = rw (eqb-true n m e) (and-both (among m ms) (within ns ms) w .0)
     go false e k f = f k
 
-pub more-numbers : (ns ms : List ℕ) → within ns ms ≡ true → (a : Answer) → Among ns a → Among ms a
+pub more-numbers : (ns ms : List ℕ) → within ns ms ≡ true → (answer : Answer) → Among ns answer → Among ms answer
 more-numbers ns ms w Accepted h = tt
 more-numbers ns ms w (Refused n p) h = among-within n ns ms w h
 
 -- "Every answer has a number (0 accepted)": 0 is in none of the lists, so it is acceptance's alone
-pub zero-accepted : (ns : List ℕ) → among 0 ns ≡ false → (a : Answer) → Among ns a → numberOf a ≡ 0 → a ≡ Accepted
+pub zero-accepted : (ns : List ℕ) → among 0 ns ≡ false → (answer : Answer) → Among ns answer → numberOf answer ≡ 0
+    → answer ≡ Accepted
 zero-accepted ns z Accepted h e = refl
 zero-accepted ns z (Refused n p) h e =
     let f : among 0 ns ≡ true = rw e at h in

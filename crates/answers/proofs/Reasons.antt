@@ -43,10 +43,11 @@ none-accepted [] a f n = f
 none-accepted (q ∷ qs) a f n = ⊎-elim (λ t. absurd (n .0 (t .0))) (λ t. none-accepted qs a (t .1) (n .1)) f
 
 -- one answer alone is the first reason's
-pub one-first : (qs : List Reason) (a b : Answer) → FirstHolds qs a → FirstHolds qs b → a ≡ b
-one-first [] a b f g = f ∙ sym g
-one-first (q ∷ qs) a b f g =
+pub one-first : (reasons : List Reason) (answer other : Answer) → FirstHolds reasons answer → FirstHolds reasons other
+    → answer ≡ other
+one-first [] answer other f g = f ∙ sym g
+one-first (q ∷ reasons) answer other f g =
     ⊎-elim
     (λ t. ⊎-elim (λ u. t .1 ∙ sym (u .1)) (λ u. absurd (u .0 (t .0))) g)
-    (λ t. ⊎-elim (λ u. absurd (t .0 (u .0))) (λ u. one-first qs a b (t .1) (u .1)) g)
+    (λ t. ⊎-elim (λ u. absurd (t .0 (u .0))) (λ u. one-first reasons answer other (t .1) (u .1)) g)
     f

@@ -10,53 +10,53 @@ use Rattle.answers.specs.declared.Answer.the-variants.{Accepted, Refused
 -- "Every answer has a number (0 accepted) and a byte place, 0 where none is stated"
 abbrev pub numberOf : Answer → ℕ
 numberOf Accepted = 0
-numberOf (Refused n p) = n
+numberOf (Refused number place) = number
 
 abbrev pub placeOf : Answer → ℕ
 placeOf Accepted = 0
-placeOf (Refused n p) = p
+placeOf (Refused number place) = place
 
--- number n at place p where the test holds
+-- that number at that place where the test holds
 unfoldable pub when : Bool → ℕ → ℕ → Answer
-when true n p = Refused n p
-when false n p = Accepted
+when true number place = Refused number place
+when false number place = Accepted
 
 infixr 10 _then_
 -- the first of two tests that refuses
 unfoldable pub _then_ : Answer → Answer → Answer
-Accepted then b = b
-(Refused n p) then b = Refused n p
+Accepted then next = next
+(Refused number place) then next = Refused number place
 
--- number n at the place where a scan stopped, if it stopped short of the end: "Within one test the lowest place is
+-- that number at the place where a scan stopped, if it stopped short of the end: "Within one test the lowest place is
 -- named"
 abbrev pub stopped : ℕ → ℕ → ℕ → Answer
-stopped n p end = when (ltb p end) n p
+stopped number place end = when (ltb place end) number place
 
 -- the answer of a test over bytes that start at place `from`, in places of the file
 unfoldable pub shifted : ℕ → Answer → Answer
 shifted from Accepted = Accepted
-shifted from (Refused n p) = Refused n (from + p)
+shifted from (Refused number place) = Refused number (from + place)
 
 -- "A writer's refusals of its own input have place 0"
 unfoldable pub own : Answer → Answer
 own Accepted = Accepted
-own (Refused n p) = Refused n 0
+own (Refused number place) = Refused number 0
 
 -- the first where a test accepts, else the second
 unfoldable pub acceptedOr : {A : Type 0} → Answer → A → A → A
-acceptedOr Accepted x y = x
-acceptedOr (Refused n p) x y = y
+acceptedOr Accepted first second = first
+acceptedOr (Refused number place) first second = second
 
 -- a refusal's number and place have the property; nothing is asked of acceptance
 abbrev pub Refusing : (ℕ → ℕ → Type 0) → Answer → Type 0
 Refusing P Accepted = Unit {0}
-Refusing P (Refused n p) = P n p
+Refusing P (Refused number place) = P number place
 
--- n is one of the numbers
+-- the number is one of these
 unfoldable pub among : ℕ → List ℕ → Bool
-among n [] = false
-among n (m ∷ ms) = eqb n m || among n ms
+among number [] = false
+among number (first ∷ rest) = eqb number first || among number rest
 
 -- accepted, or refused with one of these numbers
 abbrev pub Among : List ℕ → Answer → Type 0
-Among ns a = Refusing (λ n p. among n ns ≡ true) a
+Among numbers answer = Refusing (λ number place. among number numbers ≡ true) answer

@@ -13,9 +13,10 @@ pub record Reason : Type 1 where
 
 abbrev pub NoneHolds : List Reason → Type 0
 NoneHolds [] = Unit {0}
-NoneHolds (q ∷ qs) = (q .holds → ⊥) × NoneHolds qs
+NoneHolds (reason ∷ reasons) = (reason .holds → ⊥) × NoneHolds reasons
 
--- a is answered for the first reason that holds, or is acceptance where none does
+-- this is answered for the first reason that holds, or is acceptance where none does
 abbrev pub FirstHolds : List Reason → Answer → Type 0
-FirstHolds [] a = a ≡ Accepted
-FirstHolds (q ∷ qs) a = (q .holds × (a ≡ q .answer)) ⊎ ((q .holds → ⊥) × FirstHolds qs a)
+FirstHolds [] answer = answer ≡ Accepted
+FirstHolds (reason ∷ reasons) answer =
+    (reason .holds × (answer ≡ reason .answer)) ⊎ ((reason .holds → ⊥) × FirstHolds reasons answer)

@@ -16,11 +16,12 @@ Row = ℕ × Bool
 -- the first row that holds, "place 0 for the record's own"
 unfoldable pub firstRow : List Row → Answer
 firstRow [] = Accepted
-firstRow (q ∷ qs) = when (q .1) (q .0) 0 then firstRow qs
+firstRow (row ∷ rows) = when (row .1) (row .0) 0 then firstRow rows
 
 -- each row's test holds exactly if the reason beside it does, and gives its answer
 abbrev pub RowByRow : List Row → List Reason → Type 0
 RowByRow [] [] = Unit {0}
-RowByRow (q ∷ qs) [] = ⊥
-RowByRow [] (s ∷ ss) = ⊥
-RowByRow (q ∷ qs) (s ∷ ss) = ((q .1 ≡ true) ↔ s .holds) × (s .answer ≡ Refused (q .0) 0) × RowByRow qs ss
+RowByRow (row ∷ rows) [] = ⊥
+RowByRow [] (reason ∷ reasons) = ⊥
+RowByRow (row ∷ rows) (reason ∷ reasons) =
+    ((row .1 ≡ true) ↔ reason .holds) × (reason .answer ≡ Refused (row .0) 0) × RowByRow rows reasons

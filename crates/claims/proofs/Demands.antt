@@ -74,18 +74,22 @@ use Rattle.claims.proofs.MarkedCases.{marked}
 --   - a call that answers a number which document 01 does not name for it (sff_find/another_number,
 --     sff_format/number_of_its_own)
 --   - a refusal with the number 0 (sff_format/refusal_with_0)
-pub record Answers (r : Row) : Type 0 where
-  pub listed : Among documentNumbers (r .answer)
+pub record Answers (entry : Row) : Type 0 where
+  pub listed : Among documentNumbers (entry .answer)
   -- it is one that document 01 names for this call
-  pub own : Among (r .numbers) (r .answer)
+  pub own : Among (entry .numbers) (entry .answer)
   -- and 0 is acceptance's alone
-  pub zero : (numberOf (r .answer) ≡ 0) ↔ (r .answer ≡ Accepted)
+  pub zero : (numberOf (entry .answer) ≡ 0) ↔ (entry .answer ≡ Accepted)
 
-pub each-answers : (c : Call) → Answers (row c)
-each-answers c =
-    let n = row-numbers c in
-    let listed = more-numbers (row c .numbers) documentNumbers (n .1) (row c .answer) (n .0) in
-    record { listed = listed; own = n .0; zero = (zero-accepted documentNumbers none-is-zero (row c .answer) listed, ap numberOf) }
+pub each-answers : (call : Call) → Answers (row call)
+each-answers call =
+    let n = row-numbers call in
+    let listed = more-numbers (row call .numbers) documentNumbers (n .1) (row call .answer) (n .0) in
+    record {
+      listed = listed;
+      own = n .0;
+      zero = (zero-accepted documentNumbers none-is-zero (row call .answer) listed, ap numberOf);
+    }
 
 -- "A refused correction changes no byte of the file's buffer;"
 -- The length that is answered then is "the length given".
@@ -93,8 +97,9 @@ each-answers c =
 -- Shuts out:
 --   - a corrector that writes though it refuses (sff_correction/written_though_refused)
 --   - a corrector that answers another length when it refuses (sff_correction/refused_length_is_0)
-pub refused-unchanged : (buffer : List ℕ) (len : ℕ) (r : List ℕ) → (numberOf (correctOutcome buffer len r .answer) ≡ 0 → ⊥)
-    → (correctOutcome buffer len r .length ≡ len) × (correctBuffer buffer len r ≡ buffer)
+pub refused-unchanged : (buffer : List ℕ) (len : ℕ) («record» : List ℕ)
+    → (numberOf (correctOutcome buffer len «record» .answer) ≡ 0 → ⊥)
+    → (correctOutcome buffer len «record» .length ≡ len) × (correctBuffer buffer len «record» ≡ buffer)
 refused-unchanged = refused-left
 
 -- "what other lent memory holds is stated there."
@@ -109,7 +114,8 @@ refused-unchanged = refused-left
 --   - a refused undo that leaves a buffer as it was (filters/second_not_zeroed, claims/refused_undo_leaves_the_second)
 --   - a list that takes back what its earlier records did (claims/refused_list_changes_nothing)
 --   - a text that is put though it is refused (text/put_though_refused)
-pub memory-after-refusal : (c : Call) → (numberOf (row c .answer) ≡ 0 → ⊥) → row c .memory ≡ row c .if-refused
+pub memory-after-refusal : (call : Call) → (numberOf (row call .answer) ≡ 0 → ⊥)
+    → row call .memory ≡ row call .if-refused
 memory-after-refusal = row-refused
 
 -- DEMAND 2: the file, reading and writing, the sample filters
@@ -123,11 +129,14 @@ memory-after-refusal = row-refused
 --   - a test that accepts bytes left over (sff/leftover_bytes)
 --   - a test that accepts any padding (sff_header/padding_not_tested)
 --   - a test that accepts a base that is not the flow's (sff_walk/any_base)
-pub accepted-exactly : (b : List ℕ) → (Bytes b × (numberOf (fileTest b) ≡ 0)) ↔ IsFile b
-accepted-exactly b = ((λ t. accepted b .0 (t .0, file-zero b (t .1))), (λ t. (accepted b .1 t .0, ap numberOf (accepted b .1 t .1))))
+pub accepted-exactly : (file : List ℕ) → (Bytes file × (numberOf (fileTest file) ≡ 0)) ↔ IsFile file
+accepted-exactly file = (
+  (λ t. accepted file .0 (t .0, file-zero file (t .1))),
+  (λ t. (accepted file .1 t .0, ap numberOf (accepted file .1 t .1))),
+)
 
 -- and no other file that keeps them has these bytes
-pub one-meaning : (f g : File) → Valid f → Valid g → layout f ≡ layout g → f ≡ g
+pub one-meaning : (content other : File) → Valid content → Valid other → layout content ≡ layout other → content ≡ other
 one-meaning = one-file
 
 -- "Reads written and read back come back the same,"
@@ -140,8 +149,9 @@ one-meaning = one-file
 --     sff_sections/clips_changed_about)
 --   - a reader whose step counts no read, or two (sff_format/step_stays, sff_reader/step_past_two)
 --   - an accessor that hands out another part (sff_view/bases_are_increments)
-pub written-and-read-back : (f : File) → f .index ≡ noIndex → Valid f → (buffer : List ℕ) → length (layout f) ≤ length buffer
-    → readBack (take (writeEach buffer f .outcome .length) (writeEach buffer f .buffer)) ≡ f .reads
+pub written-and-read-back : (content : File) → content .index ≡ noIndex → Valid content → (buffer : List ℕ)
+    → length (layout content) ≤ length buffer
+    → readBack (take (writeEach buffer content .outcome .length) (writeEach buffer content .buffer)) ≡ content .reads
 written-and-read-back = written-back
 
 -- "and a file without an index, read and written again, gives its own bytes."
@@ -154,9 +164,11 @@ written-and-read-back = written-back
 --   - a layout of names without padding (sff_format/names_unpadded)
 --   - a writer or a layout with the key before the flow characters (sff_sections/key_first, sff_format/key_first)
 --   - a writer of another format code (sff_sections/format_code_0)
-pub read-and-written-again : (b : List ℕ) → Bytes b → fileTest b ≡ Accepted → declared (indexOffset b) (indexLength b) ≡ false → (buffer : List ℕ) → length b ≤ length buffer
-    → writeEach buffer (record { flow-characters = fileFlowCharacters b; key = fileKey b; index = noIndex; reads = readBack b })
-    ≡ record { outcome = record { answer = Accepted; length = length b }; buffer = putAt 0 b buffer }
+pub read-and-written-again : (file : List ℕ) → Bytes file → fileTest file ≡ Accepted
+    → declared (indexOffset file) (indexLength file) ≡ false → (buffer : List ℕ) → length file ≤ length buffer
+    → writeEach buffer
+    (record { flow-characters = fileFlowCharacters file; key = fileKey file; index = noIndex; reads = readBack file })
+    ≡ record { outcome = record { answer = Accepted; length = length file }; buffer = putAt 0 file buffer }
 read-and-written-again = written-again
 
 -- "Each sample filter undoes its own encoding as the ZTR and SCF rules define it."
@@ -174,20 +186,28 @@ read-and-written-again = written-again
 --   - SCF samples at one level (scf_samples/one_level_only)
 pub record EachFilter : Type 0 where
   -- "undoes its own encoding": for every format, level and follow bytes that encoding accepts, wherever the data fit
-  pub undone : (room room' format level : ℕ) (follow s : List ℕ) → Bytes s → Bytes follow → numberOf (encode room format level follow s .answer) ≡ 0 → length s ≤ room'
-      → undoLayer room' (encode room format level follow s .bytes) ≡ making s
+  pub undone : (room room' format level : ℕ) (follow source : List ℕ) → Bytes source → Bytes follow
+      → numberOf (encode room format level follow source .answer) ≡ 0 → length source ≤ room'
+      → undoLayer room' (encode room format level follow source .bytes) ≡ making source
   -- and for SCF samples of either precision
-  pub samples-undone : (room room' precision : ℕ) (s : List ℕ) → Bytes s → numberOf (encodeSamples room precision s .answer) ≡ 0 → length s ≤ room'
-      → undoSamples room' precision (encodeSamples room precision s .bytes) ≡ making s
+  pub samples-undone : (room room' precision : ℕ) (source : List ℕ) → Bytes source
+      → numberOf (encodeSamples room precision source .answer) ≡ 0 → length source ≤ room'
+      → undoSamples room' precision (encodeSamples room precision source .bytes) ≡ making source
   -- "as the ZTR and SCF rules define it": what encoding gives is what these ask, unit by unit
-  pub by-ztr : (room level : ℕ) (follow s : List ℕ) → Bytes s → Bytes follow → EncodedByRule room level follow s
-  pub by-scf : (room precision : ℕ) (s : List ℕ) → Bytes s → numberOf (encodeSamples room precision s .answer) ≡ 0
-      → DeltaOf [] precision 2 s (encodeSamples room precision s .bytes)
+  pub by-ztr : (room level : ℕ) (follow source : List ℕ) → Bytes source → Bytes follow
+      → EncodedByRule room level follow source
+  pub by-scf : (room precision : ℕ) (source : List ℕ) → Bytes source
+      → numberOf (encodeSamples room precision source .answer) ≡ 0
+      → DeltaOf [] precision 2 source (encodeSamples room precision source .bytes)
 
 pub each-filter : EachFilter
 each-filter = record {
-  undone = λ room room' format level follow s y z carried fits. undo-after-encode room room' format level follow s y z (encode-zero room format level follow s carried) fits;
-  samples-undone = λ room room' precision s y carried fits. undo-after-encode-samples room room' precision s y fits (encode-samples-zero room precision s carried);
+  undone = λ room room' format level follow source source-bytes follow-bytes carried fits.
+      undo-after-encode room room' format level follow source source-bytes follow-bytes
+      (encode-zero room format level follow source carried) fits;
+  samples-undone = λ room room' precision source source-bytes carried fits.
+      undo-after-encode-samples room room' precision source source-bytes fits
+      (encode-samples-zero room precision source carried);
   by-ztr = encoded-by-rule;
   by-scf = samples-by-rule;
 }
@@ -195,7 +215,7 @@ each-filter = record {
 -- DEMAND 3: corrections, by one record and by every list of records
 
 -- One record, on any buffer with any length stated; the sentences stand at the fields. The reasons in document 01's
--- order are the table `reasonsAgainst`; c is what the record says, f what the file says, and `new` that with the
+-- order are the table `reasonsAgainst`; `correction` is what the record says, `content` what the file says, and `new` that with the
 -- correction carried out.
 -- Code: `sff_corrector::correct`, and `service::sffstore_correct` over it.
 -- Shuts out:
@@ -206,51 +226,65 @@ each-filter = record {
 --   - a corrector that overwrites reads not yet moved (splice/low_end_first)
 --   - a corrector that does not zero the freed bytes (splice/freed_bytes_left)
 --   - a corrector that still counts a removed read (sff_edit/count_not_lowered)
-pub record OneRecordOn (buffer : List ℕ) (len : ℕ) (r : List ℕ) (c : Correction) (f new : File) : Type 0 where
+pub record OneRecordOn (buffer : List ℕ) (len : ℕ) («record» : List ℕ)
+    (correction : Correction) (content new : File) : Type 0 where
   -- "Whatever bytes are lent as the file and as a correction record, and whatever file length is stated, the correction
   -- is carried out, with number 0, exactly when none of document 01's reasons to refuse holds."
-  pub carried-out : (numberOf (correctOutcome buffer len r .answer) ≡ 0) ↔ NoneHolds (reasonsAgainst buffer len r)
+  pub carried-out : (numberOf (correctOutcome buffer len «record» .answer) ≡ 0)
+      ↔ NoneHolds (reasonsAgainst buffer len «record»)
   -- "Otherwise it answers the first that holds, in document 01's order."
-  pub else-first : FirstHolds (reasonsAgainst buffer len r) (correctOutcome buffer len r .answer)
+  pub else-first : FirstHolds (reasonsAgainst buffer len «record») (correctOutcome buffer len «record» .answer)
   -- refused, with a number other than 0: the length given is answered, and every byte is as it was
-  pub refused : (numberOf (correctOutcome buffer len r .answer) ≡ 0 → ⊥) → (correctOutcome buffer len r .length ≡ len) × (correctBuffer buffer len r ≡ buffer)
+  pub refused : (numberOf (correctOutcome buffer len «record» .answer) ≡ 0 → ⊥)
+      → (correctOutcome buffer len «record» .length ≡ len) × (correctBuffer buffer len «record» ≡ buffer)
   -- "Once carried out, the file is, byte for byte, what writing afresh gives": `new`, laid out; then zeros up to the
   -- longer of both lengths, and the rest of the buffer as it was
-  pub afresh : numberOf (correctOutcome buffer len r .answer) ≡ 0
-      → (correctOutcome buffer len r .length ≡ length (layout new)) × (correctBuffer buffer len r ≡ settled (layout new) (max len (length (layout new))) buffer)
+  pub afresh : numberOf (correctOutcome buffer len «record» .answer) ≡ 0
+      → (correctOutcome buffer len «record» .length ≡ length (layout new))
+      × (correctBuffer buffer len «record» ≡ settled (layout new) (max len (length (layout new))) buffer)
   -- "from the same header, any index, and the same reads with that one read changed or left out."
-  pub same-header : (new .flow-characters ≡ f .flow-characters) × (new .key ≡ f .key) × (new .index ≡ f .index)
-  pub same-reads : new .reads ≡ take (c .position) (f .reads) ++ instead (c .change) (readAt f (c .position)) ++ drop (suc (c .position)) (f .reads)
+  pub same-header : (new .flow-characters ≡ content .flow-characters) × (new .key ≡ content .key)
+      × (new .index ≡ content .index)
+  pub same-reads : new .reads
+      ≡ take (correction .position) (content .reads)
+      ++ instead (correction .change) (readAt content (correction .position))
+      ++ drop (suc (correction .position)) (content .reads)
   -- "Every other read's sections keep their bytes and their order.": so does all that stands before that read and after
   -- it, but for the count at 20
-  pub others-kept : numberOf (correctOutcome buffer len r .answer) ≡ 0
-      → take (correctOutcome buffer len r .length) (correctBuffer buffer len r)
+  pub others-kept : numberOf (correctOutcome buffer len «record» .answer) ≡ 0
+      → take (correctOutcome buffer len «record» .length) (correctBuffer buffer len «record»)
       ≡ putAt 20 (bytesOf 4 (length (new .reads)))
       (
-      take (readPlace (take len buffer) (c .position)) (take len buffer)
-      ++ (layoutReads (instead (c .change) (readAt f (c .position))) ++ drop (readPlace (take len buffer) (c .position) + length (layoutRead (readAt f (c .position)))) (take len buffer))
+      take (readPlace (take len buffer) (correction .position)) (take len buffer)
+      ++ (layoutReads (instead (correction .change) (readAt content (correction .position)))
+      ++ drop (readPlace (take len buffer) (correction .position) + length (layoutRead (readAt content (correction .position))))
+      (take len buffer))
       )
   -- the corrected file keeps the rules
-  pub valid : numberOf (correctOutcome buffer len r .answer) ≡ 0 → Valid new
+  pub valid : numberOf (correctOutcome buffer len «record» .answer) ≡ 0 → Valid new
 
 abbrev pub OneRecord : List ℕ → ℕ → List ℕ → Type 0
-OneRecord buffer len r = OneRecordOn buffer len r (parseRecord r) (parse (take len buffer)) (edited (parseRecord r) (parse (take len buffer)))
+OneRecord buffer len «record» =
+    OneRecordOn buffer len «record» (parseRecord «record») (parse (take len buffer))
+    (edited (parseRecord «record») (parse (take len buffer)))
 
-pub one-record : (buffer : List ℕ) (len : ℕ) (r : List ℕ) → Bytes buffer → Bytes r → OneRecord buffer len r
+pub one-record : (buffer : List ℕ) (len : ℕ) («record» : List ℕ) → Bytes buffer → Bytes «record»
+    → OneRecord buffer len «record»
 unfolding edited
-one-record buffer len r y z = record {
-  carried-out = carried-exactly buffer len r y z;
-  else-first = first-answered buffer len r y z;
-  refused = refused-left buffer len r;
-  afresh = carried-left buffer len r y z;
+one-record buffer len «record» y z = record {
+  carried-out = carried-exactly buffer len «record» y z;
+  else-first = first-answered buffer len «record» y z;
+  refused = refused-left buffer len «record»;
+  afresh = carried-left buffer len «record» y z;
   same-header = (refl, refl, refl);
   same-reads = refl;
-  others-kept = carried-kept buffer len r y z;
-  valid = carried-valid buffer len r y z;
+  others-kept = carried-kept buffer len «record» y z;
+  valid = carried-valid buffer len «record» y z;
 }
 
 -- `FirstHolds` leaves no choice: one answer alone is that of the first reason that holds
-pub one-answer : (qs : List Reason) (a b : Answer) → FirstHolds qs a → FirstHolds qs b → a ≡ b
+pub one-answer : (reasons : List Reason) (answer other : Answer) → FirstHolds reasons answer → FirstHolds reasons other
+    → answer ≡ other
 one-answer = one-first
 
 -- "what writing afresh gives": a file without index that is corrected in place is the one that a new file and an append
@@ -259,13 +293,17 @@ one-answer = one-first
 -- Shuts out:
 --   - a corrector and a writer that lay a read out differently (sff_edit/name_length_not_written,
 --     sff_sections/name_for_the_bases)
-pub in-place-is-afresh : (buffer : List ℕ) (len : ℕ) (r : List ℕ) → Bytes buffer → Bytes r → numberOf (correctOutcome buffer len r .answer) ≡ 0 → parse (take len buffer) .index ≡ noIndex
-    → (other : List ℕ) → length (layout (edited (parseRecord r) (parse (take len buffer)))) ≤ length other
-    → writeEach other (edited (parseRecord r) (parse (take len buffer)))
-    ≡ record { outcome = correctOutcome buffer len r; buffer = putAt 0 (take (correctOutcome buffer len r .length) (correctBuffer buffer len r)) other }
+pub in-place-is-afresh : (buffer : List ℕ) (len : ℕ) («record» : List ℕ) → Bytes buffer → Bytes «record»
+    → numberOf (correctOutcome buffer len «record» .answer) ≡ 0 → parse (take len buffer) .index ≡ noIndex
+    → (other : List ℕ) → length (layout (edited (parseRecord «record») (parse (take len buffer)))) ≤ length other
+    → writeEach other (edited (parseRecord «record») (parse (take len buffer)))
+    ≡ record {
+      outcome = correctOutcome buffer len «record»;
+      buffer = putAt 0 (take (correctOutcome buffer len «record» .length) (correctBuffer buffer len «record»)) other;
+    }
 in-place-is-afresh = corrected-written
 
--- A list of whole records on an accepted file; the sentences stand at the fields. f is what the file says, `all` how
+-- A list of whole records on an accepted file; the sentences stand at the fields. `content` is what the file says, `all` how
 -- many records there are, `count` the count that is answered, and `before k` what a list of the first k records leaves.
 -- Code: `sff_corrector::correct_list`.
 -- Shuts out:
@@ -274,57 +312,70 @@ in-place-is-afresh = corrected-written
 --   - a list run that judges each record on the file, or its length, at the start (sff_correction/file_of_the_start,
 --     sff_correction/length_of_the_start)
 --   - a list run that looks for a read from a place where no read starts (sff_corrector/mark_elsewhere)
-pub record WholeList (buffer : List ℕ) (len : ℕ) (l : List ℕ) (f : File) (all count : ℕ) (before : ℕ → Run) : Type 0 where
+pub record WholeList (buffer : List ℕ) (len : ℕ) (list : List ℕ)
+    (content : File) (all count : ℕ) (before : ℕ → Run) : Type 0 where
   -- "For every list of whole records, run on any accepted file, those carried out are exactly the ones before the first
   -- for which a reason to refuse holds in its turn,"
-  pub carried-out : (k : ℕ) → k < count → NoneHolds (reasonsInTurn (length buffer) k l f)
-  pub refused : count < all → NoneHolds (reasonsInTurn (length buffer) count l f) → ⊥
-  pub else-first : count < all → FirstHolds (reasonsInTurn (length buffer) count l f) (runList buffer len l .outcome .answer)
+  pub carried-out : (k : ℕ) → k < count → NoneHolds (reasonsInTurn (length buffer) k list content)
+  pub refused : count < all → NoneHolds (reasonsInTurn (length buffer) count list content) → ⊥
+  pub else-first : count < all
+      → FirstHolds (reasonsInTurn (length buffer) count list content) (runList buffer len list .outcome .answer)
   -- "or all if there is none; the count is how many they are."
   pub most : count ≤ all
-  pub all-of-them : count ≡ all → runList buffer len l .outcome .answer ≡ Accepted
+  pub all-of-them : count ≡ all → runList buffer len list .outcome .answer ≡ Accepted
   -- "in its turn": each record runs on the buffer and length that those before it left; the first refusal ends the list
   pub next : (k : ℕ) → k < count
-      → before (suc k) ≡ ran (suc k) Accepted (correctOutcome (before k .buffer) (before k .outcome .length) (recordAt k l) .length) (correctBuffer (before k .buffer) (before k .outcome .length) (recordAt k l))
+      → before (suc k)
+      ≡ ran (suc k) Accepted (correctOutcome (before k .buffer) (before k .outcome .length) (recordAt k list) .length)
+      (correctBuffer (before k .buffer) (before k .outcome .length) (recordAt k list))
   pub last : count < all
-      → runList buffer len l ≡ ran count (correctOutcome (before count .buffer) (before count .outcome .length) (recordAt count l) .answer) (before count .outcome .length) (before count .buffer)
+      → runList buffer len list
+      ≡ ran count (correctOutcome (before count .buffer) (before count .outcome .length) (recordAt count list) .answer)
+      (before count .outcome .length) (before count .buffer)
   -- document 01: "Demand 3 holds of each record in its turn"
-  pub each : (k : ℕ) → k ≤ count → k < all → OneRecord (before k .buffer) (before k .outcome .length) (recordAt k l)
+  pub each : (k : ℕ) → k ≤ count → k < all → OneRecord (before k .buffer) (before k .outcome .length) (recordAt k list)
   -- a record in its turn finds an accepted file that fits the buffer: so 14 and the file's refusal never hold, and
   -- `reasonsInTurn` has the other reasons alone
-  pub reasons : (k : ℕ) → k ≤ count → NoneHolds (reasonsAgainst (before k .buffer) (before k .outcome .length) (recordAt k l)) ↔ NoneHolds (reasonsInTurn (length buffer) k l f)
+  pub reasons : (k : ℕ) → k ≤ count
+      → NoneHolds (reasonsAgainst (before k .buffer) (before k .outcome .length) (recordAt k list))
+      ↔ NoneHolds (reasonsInTurn (length buffer) k list content)
   -- "The file is then what writing afresh gives from its header, any index, and the reads as these records, one after
   -- the other, have left them."
-  pub file : take (runList buffer len l .outcome .length) (runList buffer len l .buffer) ≡ layout (fileAfter count (correctionAt l) f)
-  pub same-header : (fileAfter count (correctionAt l) f .flow-characters ≡ f .flow-characters) × (fileAfter count (correctionAt l) f .key ≡ f .key) × (fileAfter count (correctionAt l) f .index ≡ f .index)
+  pub file : take (runList buffer len list .outcome .length) (runList buffer len list .buffer)
+      ≡ layout (fileAfter count (correctionAt list) content)
+  pub same-header : (fileAfter count (correctionAt list) content .flow-characters ≡ content .flow-characters)
+      × (fileAfter count (correctionAt list) content .key ≡ content .key)
+      × (fileAfter count (correctionAt list) content .index ≡ content .index)
   -- the file that is left keeps the rules
-  pub valid : Valid (fileAfter count (correctionAt l) f)
+  pub valid : Valid (fileAfter count (correctionAt list) content)
 
-pub record EveryList (buffer : List ℕ) (len : ℕ) (l : List ℕ) : Type 0 where
+pub record EveryList (buffer : List ℕ) (len : ℕ) (list : List ℕ) : Type 0 where
   -- on any buffer with any length stated, document 01's "single claim over every list, on the whole answer and the
   -- whole buffer": `listAfresh` says what is answered and left, also for a list that is not whole or is empty, and for
   -- a file that is refused
-  pub whole : runList buffer len l ≡ listAfresh buffer len l
+  pub whole : runList buffer len list ≡ listAfresh buffer len list
   -- the sentences' case: whole records on an accepted file
-  pub on-file : len ≤ length buffer → fileTest (take len buffer) ≡ Accepted → length l % 96 ≡ 0
-      → WholeList buffer len l (parse (take len buffer)) (length l / 96) (runList buffer len l .outcome .count) (λ k. runList buffer len (firstRecords k l))
+  pub on-file : len ≤ length buffer → fileTest (take len buffer) ≡ Accepted → length list % 96 ≡ 0
+      → WholeList buffer len list (parse (take len buffer)) (length list / 96)
+      (runList buffer len list .outcome .count) (λ k. runList buffer len (firstRecords k list))
 
-pub list-corrected : (buffer : List ℕ) (len : ℕ) (l : List ℕ) → Bytes buffer → Bytes l → EveryList buffer len l
-list-corrected buffer len l y z = record {
-  whole = every-list buffer len l y z;
+pub list-corrected : (buffer : List ℕ) (len : ℕ) (list : List ℕ) → Bytes buffer → Bytes list → EveryList buffer len list
+list-corrected buffer len list y z = record {
+  whole = every-list buffer len list y z;
   on-file = λ h e w. record {
-    carried-out = none-of-carried buffer len l y z h e w;
-    refused = some-of-refused buffer len l y z h e w;
-    else-first = first-of-refused buffer len l y z h e w;
-    most = count-most buffer len l y z h e w;
-    all-of-them = all-carried buffer len l y z h e w;
-    next = on-in-turn buffer len l y z h e w;
-    last = stop-in-turn buffer len l y z h e w;
-    each = λ k i j. one-record _ _ (recordAt k l) (bytes-in-turn buffer len l y z h e w k i) (bytes-part (96 * k) 96 l z);
-    reasons = reasons-in-turn buffer len l y z h e w;
-    file = list-file buffer len l y z h e w;
-    same-header = header-kept (runList buffer len l .outcome .count) (correctionAt l) (parse (take len buffer));
-    valid = valid-in-turn buffer len l y z h e w (runList buffer len l .outcome .count) (omega arith);
+    carried-out = none-of-carried buffer len list y z h e w;
+    refused = some-of-refused buffer len list y z h e w;
+    else-first = first-of-refused buffer len list y z h e w;
+    most = count-most buffer len list y z h e w;
+    all-of-them = all-carried buffer len list y z h e w;
+    next = on-in-turn buffer len list y z h e w;
+    last = stop-in-turn buffer len list y z h e w;
+    each = λ k i j.
+        one-record _ _ (recordAt k list) (bytes-in-turn buffer len list y z h e w k i) (bytes-part (96 * k) 96 list z);
+    reasons = reasons-in-turn buffer len list y z h e w;
+    file = list-file buffer len list y z h e w;
+    same-header = header-kept (runList buffer len list .outcome .count) (correctionAt list) (parse (take len buffer));
+    valid = valid-in-turn buffer len list y z h e w (runList buffer len list .outcome .count) (omega arith);
   };
 }
 

@@ -26,45 +26,48 @@ use Rattle.unfiltering.specs.Unfiltering.{unfilterText}
 use Rattle.claims.specs.Calls.{Call, file-test, header-test, flow-characters, key, reader-fresh, reader-step, view-test, view-name, view-values, view-increments, view-bases, view-qualities, view-insert, first-base, last-base, position-test, insert, insert-ends, signal-test, signal, new-file, append, record-test, correct, correct-list, undo-block, undo-layer, encode-layer, encode-samples, undo-samples, list-file, print-listing, report-run, report-too-long, print-block, sffstore-test, sffstore-correct, row, zeros, documentNumbers}
 
 -- one of its own numbers, all of which document 01 has
-pub row-numbers : (c : Call) → Among (row c .numbers) (row c .answer) × (within (row c .numbers) documentNumbers ≡ true)
+pub row-numbers : (call : Call)
+    → Among (row call .numbers) (row call .answer) × (within (row call .numbers) documentNumbers ≡ true)
 unfolding newOutcome appendOutcome among
-row-numbers (file-test b) = (file-numbers b, refl)
-row-numbers (header-test b) = (header-numbers b, refl)
-row-numbers (flow-characters b) = (header-numbers b, refl)
-row-numbers (key b) = (header-numbers b, refl)
-row-numbers (reader-fresh b) = (header-numbers b, refl)
-row-numbers (reader-step b s) = (step-numbers b s, refl)
-row-numbers (view-test b v) = (view-numbers b v, refl)
-row-numbers (view-name b v) = (view-numbers b v, refl)
-row-numbers (view-values b v) = (view-numbers b v, refl)
-row-numbers (view-increments b v) = (view-numbers b v, refl)
-row-numbers (view-bases b v) = (view-numbers b v, refl)
-row-numbers (view-qualities b v) = (view-numbers b v, refl)
-row-numbers (view-insert b v) = (view-numbers b v, refl)
-row-numbers (first-base b v) = (view-numbers b v, refl)
-row-numbers (last-base b v) = (view-numbers b v, refl)
-row-numbers (position-test b i) = (position-numbers b i, refl)
-row-numbers (insert b i) = (position-numbers b i, refl)
-row-numbers (insert-ends b i) = (position-numbers b i, refl)
-row-numbers (signal-test b i) = (signal-numbers b i, refl)
-row-numbers (signal b i) = (signal-numbers b i, refl)
-row-numbers (new-file buffer characters k) = (new-numbers (length buffer) characters k, refl)
-row-numbers (append buffer len r) = (append-numbers buffer len r, refl)
-row-numbers (record-test r) = (record-numbers r, refl)
-row-numbers (correct buffer len r) = (outcome-numbers buffer len r, refl)
-row-numbers (correct-list buffer len l) = (list-numbers buffer len l, refl)
-row-numbers (undo-block b first second) = (undo-numbers (roomOf first second) b, refl)
-row-numbers (undo-layer b first second) = (layer-numbers (roomOf first second) b, refl)
-row-numbers (encode-layer format level follow s out) = (encode-numbers (length out) format level follow s, refl)
-row-numbers (encode-samples precision s out) = (encode-samples-numbers (length out) precision s, refl)
-row-numbers (undo-samples precision s out) = (undo-samples-numbers (length out) precision s, refl)
-row-numbers (list-file b out) = (fitted-numbers (length out) (listing b), refl)
-row-numbers (print-listing b out) = (fitted-numbers (length out) (printed b), refl)
-row-numbers (report-run o out) = (fitted-numbers (length out) (reported o), refl)
+row-numbers (file-test file) = (file-numbers file, refl)
+row-numbers (header-test file) = (header-numbers file, refl)
+row-numbers (flow-characters file) = (header-numbers file, refl)
+row-numbers (key file) = (header-numbers file, refl)
+row-numbers (reader-fresh file) = (header-numbers file, refl)
+row-numbers (reader-step file state) = (step-numbers file state, refl)
+row-numbers (view-test file view) = (view-numbers file view, refl)
+row-numbers (view-name file view) = (view-numbers file view, refl)
+row-numbers (view-values file view) = (view-numbers file view, refl)
+row-numbers (view-increments file view) = (view-numbers file view, refl)
+row-numbers (view-bases file view) = (view-numbers file view, refl)
+row-numbers (view-qualities file view) = (view-numbers file view, refl)
+row-numbers (view-insert file view) = (view-numbers file view, refl)
+row-numbers (first-base file view) = (view-numbers file view, refl)
+row-numbers (last-base file view) = (view-numbers file view, refl)
+row-numbers (position-test file position) = (position-numbers file position, refl)
+row-numbers (insert file position) = (position-numbers file position, refl)
+row-numbers (insert-ends file position) = (position-numbers file position, refl)
+row-numbers (signal-test file position) = (signal-numbers file position, refl)
+row-numbers (signal file position) = (signal-numbers file position, refl)
+row-numbers (new-file buffer characters key-characters) = (new-numbers (length buffer) characters key-characters, refl)
+row-numbers (append buffer len read) = (append-numbers buffer len read, refl)
+row-numbers (record-test «record») = (record-numbers «record», refl)
+row-numbers (correct buffer len «record») = (outcome-numbers buffer len «record», refl)
+row-numbers (correct-list buffer len list) = (list-numbers buffer len list, refl)
+row-numbers (undo-block block first second) = (undo-numbers (roomOf first second) block, refl)
+row-numbers (undo-layer block first second) = (layer-numbers (roomOf first second) block, refl)
+row-numbers (encode-layer format level follow source out) =
+    (encode-numbers (length out) format level follow source, refl)
+row-numbers (encode-samples precision source out) = (encode-samples-numbers (length out) precision source, refl)
+row-numbers (undo-samples precision source out) = (undo-samples-numbers (length out) precision source, refl)
+row-numbers (list-file file out) = (fitted-numbers (length out) (listing file), refl)
+row-numbers (print-listing input out) = (fitted-numbers (length out) (printed input), refl)
+row-numbers (report-run outcome out) = (fitted-numbers (length out) (reported outcome), refl)
 row-numbers (report-too-long out) = (fitted-numbers (length out) tooLong, refl)
-row-numbers (print-block b first second) = (fitted-numbers (length first) (unfilterText (roomOf first second) b), refl)
-row-numbers (sffstore-test b) = (file-numbers b, refl)
-row-numbers (sffstore-correct buffer len r) = (outcome-numbers buffer len r, refl)
+row-numbers (print-block input first second) =
+    (fitted-numbers (length first) (unfilterText (roomOf first second) input), refl)
+row-numbers (sffstore-test file) = (file-numbers file, refl)
+row-numbers (sffstore-correct buffer len «record») = (outcome-numbers buffer len «record», refl)
 
 pub none-is-zero : among 0 documentNumbers ≡ false
 unfolding among
@@ -79,42 +82,50 @@ zeroed : (made first second : List ℕ) → made ≡ [] → filled (length first
 zeroed made first second e = rw (e, filled-none first, filled-none second)
 
 -- what a refusal leaves
-pub row-refused : (c : Call) → (numberOf (row c .answer) ≡ 0 → ⊥) → row c .memory ≡ row c .if-refused
+pub row-refused : (call : Call) → (numberOf (row call .answer) ≡ 0 → ⊥) → row call .memory ≡ row call .if-refused
 unfolding newOutcome newBuffer appendOutcome appendBuffer
-row-refused (file-test b) h = refl
-row-refused (header-test b) h = refl
-row-refused (flow-characters b) h = refl
-row-refused (key b) h = refl
-row-refused (reader-fresh b) h = refl
-row-refused (reader-step b s) h = refl
-row-refused (view-test b v) h = refl
-row-refused (view-name b v) h = refl
-row-refused (view-values b v) h = refl
-row-refused (view-increments b v) h = refl
-row-refused (view-bases b v) h = refl
-row-refused (view-qualities b v) h = refl
-row-refused (view-insert b v) h = refl
-row-refused (first-base b v) h = refl
-row-refused (last-base b v) h = refl
-row-refused (position-test b i) h = refl
-row-refused (insert b i) h = refl
-row-refused (insert-ends b i) h = refl
-row-refused (signal-test b i) h = refl
-row-refused (signal b i) h = refl
-row-refused (new-file buffer characters k) h = ap (λ (x : List ℕ). x ∷ []) (refused-or _ _ _ h)
-row-refused (append buffer len r) h = ap (λ (x : List ℕ). x ∷ []) (refused-or _ _ _ h)
-row-refused (record-test r) h = refl
-row-refused (correct buffer len r) h = ap (λ (x : List ℕ). x ∷ []) (refused-left buffer len r h .1)
-row-refused (correct-list buffer len l) h = ap (λ (x : List ℕ). x ∷ []) (earlier-left buffer len l)
-row-refused (undo-block b first second) h = zeroed _ first second (undo-none (roomOf first second) b h)
-row-refused (undo-layer b first second) h = zeroed _ first second (layer-none (roomOf first second) b h)
-row-refused (encode-layer format level follow s out) h = rw (encode-none (length out) format level follow s h) (ap (λ (x : List ℕ). x ∷ []) (put-nil 0 out))
-row-refused (encode-samples precision s out) h = rw (encode-samples-none (length out) precision s h) (ap (λ (x : List ℕ). x ∷ []) (put-nil 0 out))
-row-refused (undo-samples precision s out) h = rw (undo-samples-none (length out) precision s h) (ap (λ (x : List ℕ). x ∷ []) (put-nil 0 out))
-row-refused (list-file b out) h = rw (fitted-none (length out) (listing b) h) (ap (λ (x : List ℕ). x ∷ []) (put-nil 0 out))
-row-refused (print-listing b out) h = rw (fitted-none (length out) (printed b) h) (ap (λ (x : List ℕ). x ∷ []) (put-nil 0 out))
-row-refused (report-run o out) h = rw (fitted-none (length out) (reported o) h) (ap (λ (x : List ℕ). x ∷ []) (put-nil 0 out))
+row-refused (file-test file) h = refl
+row-refused (header-test file) h = refl
+row-refused (flow-characters file) h = refl
+row-refused (key file) h = refl
+row-refused (reader-fresh file) h = refl
+row-refused (reader-step file state) h = refl
+row-refused (view-test file view) h = refl
+row-refused (view-name file view) h = refl
+row-refused (view-values file view) h = refl
+row-refused (view-increments file view) h = refl
+row-refused (view-bases file view) h = refl
+row-refused (view-qualities file view) h = refl
+row-refused (view-insert file view) h = refl
+row-refused (first-base file view) h = refl
+row-refused (last-base file view) h = refl
+row-refused (position-test file position) h = refl
+row-refused (insert file position) h = refl
+row-refused (insert-ends file position) h = refl
+row-refused (signal-test file position) h = refl
+row-refused (signal file position) h = refl
+row-refused (new-file buffer characters key-characters) h = ap (λ (x : List ℕ). x ∷ []) (refused-or _ _ _ h)
+row-refused (append buffer len read) h = ap (λ (x : List ℕ). x ∷ []) (refused-or _ _ _ h)
+row-refused (record-test «record») h = refl
+row-refused (correct buffer len «record») h = ap (λ (x : List ℕ). x ∷ []) (refused-left buffer len «record» h .1)
+row-refused (correct-list buffer len list) h = ap (λ (x : List ℕ). x ∷ []) (earlier-left buffer len list)
+row-refused (undo-block block first second) h = zeroed _ first second (undo-none (roomOf first second) block h)
+row-refused (undo-layer block first second) h = zeroed _ first second (layer-none (roomOf first second) block h)
+row-refused (encode-layer format level follow source out) h =
+    rw (encode-none (length out) format level follow source h) (ap (λ (x : List ℕ). x ∷ []) (put-nil 0 out))
+row-refused (encode-samples precision source out) h =
+    rw (encode-samples-none (length out) precision source h) (ap (λ (x : List ℕ). x ∷ []) (put-nil 0 out))
+row-refused (undo-samples precision source out) h =
+    rw (undo-samples-none (length out) precision source h) (ap (λ (x : List ℕ). x ∷ []) (put-nil 0 out))
+row-refused (list-file file out) h =
+    rw (fitted-none (length out) (listing file) h) (ap (λ (x : List ℕ). x ∷ []) (put-nil 0 out))
+row-refused (print-listing input out) h =
+    rw (fitted-none (length out) (printed input) h) (ap (λ (x : List ℕ). x ∷ []) (put-nil 0 out))
+row-refused (report-run outcome out) h =
+    rw (fitted-none (length out) (reported outcome) h) (ap (λ (x : List ℕ). x ∷ []) (put-nil 0 out))
 row-refused (report-too-long out) h = rw (fitted-none (length out) tooLong h) (ap (λ (x : List ℕ). x ∷ []) (put-nil 0 out))
-row-refused (print-block b first second) h = zeroed _ first second (fitted-none (length first) (unfilterText (roomOf first second) b) h)
-row-refused (sffstore-test b) h = refl
-row-refused (sffstore-correct buffer len r) h = ap (λ (x : List ℕ). x ∷ []) (refused-left buffer len r h .1)
+row-refused (print-block input first second) h =
+    zeroed _ first second (fitted-none (length first) (unfilterText (roomOf first second) input) h)
+row-refused (sffstore-test file) h = refl
+row-refused (sffstore-correct buffer len «record») h =
+    ap (λ (x : List ℕ). x ∷ []) (refused-left buffer len «record» h .1)

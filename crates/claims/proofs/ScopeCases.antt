@@ -46,15 +46,15 @@ tested = rw accepted
 
 pub signal-in-E : fileSignal eBytes 0
     ≡ record { strongest = fin false 1 (pos 1); weakest = fin false 0 (pos 0); mean = fin false 3 (negsuc 1) }
-signal-in-E = signal-is eBytes 0 tested ∙ ap (λ (f : File). summaryOf (readAt f 0 .values)) parsed ∙ example
+signal-in-E = signal-is eBytes 0 tested ∙ ap (λ (content : File). summaryOf (readAt content 0 .values)) parsed ∙ example
 
 lines-of-E : fileLines e ≡ 102 ∷ 108 ∷ 111 ∷ 119 ∷ 115 ∷ 32 ∷ 52 ∷ 32 ∷ 107 ∷ 101 ∷ 121 ∷ 32 ∷ 84 ∷ 32 ∷ 114 ∷ 101 ∷ 97 ∷ 100 ∷ 115 ∷ 32 ∷ 49 ∷ 10
     ∷ 48 ∷ 32 ∷ 114 ∷ 49 ∷ 32 ∷ 51 ∷ 32 ∷ 50 ∷ 32 ∷ 51 ∷ 32 ∷ 67 ∷ 67 ∷ 10 ∷ []
 unfolding fileLines linesFrom headerLine readLine extent labelledNumber labelledWord numberField wordField orDash decimalOf firstBase rightEnd lastBase insertOf
 lines-of-E = refl
 
-short : (b : List ℕ) → length b ≡ 88 → length b ≤ 65536
-short b h = omega arith
+short : (file : List ℕ) → length file ≡ 88 → length file ≤ 65536
+short file h = omega arith
 
 pub text-in-E : printed eBytes ≡ 102 ∷ 108 ∷ 111 ∷ 119 ∷ 115 ∷ 32 ∷ 52 ∷ 32 ∷ 107 ∷ 101 ∷ 121 ∷ 32 ∷ 84 ∷ 32 ∷ 114 ∷ 101 ∷ 97 ∷ 100 ∷ 115 ∷ 32 ∷ 49 ∷ 10
     ∷ 48 ∷ 32 ∷ 114 ∷ 49 ∷ 32 ∷ 51 ∷ 32 ∷ 50 ∷ 32 ∷ 51 ∷ 32 ∷ 67 ∷ 67 ∷ 10 ∷ []

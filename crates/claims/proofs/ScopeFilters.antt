@@ -18,69 +18,94 @@ use Rattle.filter_format.proofs.Refusals.{layer-zero, encode-zero, undo-samples
 use Rattle.filter_format.proofs.InWords.{DeltaFormat, level-opened, zeros-opened, level-refused, zeros-refused, level-encoded, level-not-encoded, long-form}
 
 -- FILTERED BLOCKS. "a filter the number of bytes it made (refused: 0)"
-pub refused-undo : (room : ℕ) (b : List ℕ) → (numberOf (undo room b .answer) ≡ 0 → ⊥) → filtered (undo room b) .made ≡ 0
-refused-undo room b h = ap length (undo-none room b h)
+pub refused-undo : (room : ℕ) (block : List ℕ) → (numberOf (undo room block .answer) ≡ 0 → ⊥)
+    → filtered (undo room block) .made ≡ 0
+refused-undo room block h = ap length (undo-none room block h)
 
-pub refused-layer : (room : ℕ) (b : List ℕ) → (numberOf (undoLayer room b .answer) ≡ 0 → ⊥) → filtered (undoLayer room b) .made ≡ 0
-refused-layer room b h = ap length (layer-none room b h)
+pub refused-layer : (room : ℕ) (block : List ℕ) → (numberOf (undoLayer room block .answer) ≡ 0 → ⊥)
+    → filtered (undoLayer room block) .made ≡ 0
+refused-layer room block h = ap length (layer-none room block h)
 
-pub refused-encode : (room format level : ℕ) (follow s : List ℕ) → (numberOf (encode room format level follow s .answer) ≡ 0 → ⊥) → filtered (encode room format level follow s) .made ≡ 0
-refused-encode room format level follow s h = ap length (encode-none room format level follow s h)
+pub refused-encode : (room format level : ℕ) (follow source : List ℕ)
+    → (numberOf (encode room format level follow source .answer) ≡ 0 → ⊥)
+    → filtered (encode room format level follow source) .made ≡ 0
+refused-encode room format level follow source h = ap length (encode-none room format level follow source h)
 
-pub refused-samples : (room precision : ℕ) (s : List ℕ) → (numberOf (encodeSamples room precision s .answer) ≡ 0 → ⊥) → filtered (encodeSamples room precision s) .made ≡ 0
-refused-samples room precision s h = ap length (encode-samples-none room precision s h)
+pub refused-samples : (room precision : ℕ) (source : List ℕ)
+    → (numberOf (encodeSamples room precision source .answer) ≡ 0 → ⊥)
+    → filtered (encodeSamples room precision source) .made ≡ 0
+refused-samples room precision source h = ap length (encode-samples-none room precision source h)
 
-pub refused-samples-back : (room precision : ℕ) (s : List ℕ) → (numberOf (undoSamples room precision s .answer) ≡ 0 → ⊥) → filtered (undoSamples room precision s) .made ≡ 0
-refused-samples-back room precision s h = ap length (undo-samples-none room precision s h)
+pub refused-samples-back : (room precision : ℕ) (source : List ℕ)
+    → (numberOf (undoSamples room precision source .answer) ≡ 0 → ⊥)
+    → filtered (undoSamples room precision source) .made ≡ 0
+refused-samples-back room precision source h = ap length (undo-samples-none room precision source h)
 
 -- "64, 65, 66: level byte, 1 to 3 here (66: then two zeros), data in units of 1, 2, 4 bytes". Of such a block, of units
--- of w bytes whose data start at `start`: one that is undone has such a level, and zeros; any other header is 42, where
+-- of `width` bytes whose data start at `start`: one that is undone has such a level, and zeros; any other header is 42, where
 -- the tests before it pass
-pub level-of-block : (room w start : ℕ) (b : List ℕ) → DeltaFormat (getD b 0 0) w start → numberOf (undoLayer room b .answer) ≡ 0
-    → (1 ≤ getD b 1 0) × (getD b 1 0 ≤ 3) × (start ≡ 4 → (getD b 2 0 ≡ 0) × (getD b 3 0 ≡ 0))
-level-of-block room w start b d carried =
-    let a = layer-zero room b carried in
-    let l = level-opened room w start b d a in
-    (l .0, l .1, λ z. zeros-opened room w start b d z a)
+pub level-of-block : (room width start : ℕ) (block : List ℕ) → DeltaFormat (getD block 0 0) width start
+    → numberOf (undoLayer room block .answer) ≡ 0
+    → (1 ≤ getD block 1 0) × (getD block 1 0 ≤ 3) × (start ≡ 4 → (getD block 2 0 ≡ 0) × (getD block 3 0 ≡ 0))
+level-of-block room width start block delta carried =
+    let a = layer-zero room block carried in
+    let l = level-opened room width start block delta a in
+    (l .0, l .1, λ z. zeros-opened room width start block delta z a)
 
-pub other-level-of-block : (room w start : ℕ) (b : List ℕ) → DeltaFormat (getD b 0 0) w start → start ≤ length b
-    → (getD b 1 0 ≡ 0) ⊎ (3 < getD b 1 0) → (undoLayer room b ≡ refusing (Refused 42 0)) × (undo room b ≡ refusing (Refused 42 0))
+pub other-level-of-block : (room width start : ℕ) (block : List ℕ) → DeltaFormat (getD block 0 0) width start
+    → start ≤ length block
+    → (getD block 1 0 ≡ 0) ⊎ (3 < getD block 1 0)
+    → (undoLayer room block ≡ refusing (Refused 42 0)) × (undo room block ≡ refusing (Refused 42 0))
 other-level-of-block = level-refused
 
-pub no-zeros-in-block : (room w start : ℕ) (b : List ℕ) → DeltaFormat (getD b 0 0) w start → start ≤ length b
-    → start ≡ 4 → (getD b 2 0 ≡ 0 → ⊥) ⊎ (getD b 3 0 ≡ 0 → ⊥) → (undoLayer room b ≡ refusing (Refused 42 0)) × (undo room b ≡ refusing (Refused 42 0))
+pub no-zeros-in-block : (room width start : ℕ) (block : List ℕ) → DeltaFormat (getD block 0 0) width start
+    → start ≤ length block
+    → start ≡ 4 → (getD block 2 0 ≡ 0 → ⊥) ⊎ (getD block 3 0 ≡ 0 → ⊥)
+    → (undoLayer room block ≡ refusing (Refused 42 0)) × (undo room block ≡ refusing (Refused 42 0))
 no-zeros-in-block = zeros-refused
 
--- a layer that is made of data s has such a level; any other level is 42
-module _ (room format w start level : ℕ) (follow s : List ℕ) (d : DeltaFormat format w start) where
-  pub level-given : numberOf (encode room format level follow s .answer) ≡ 0 → (1 ≤ level) × (level ≤ 3)
-  level-given carried = level-encoded room format w start level follow s d (encode-zero room format level follow s carried)
+-- a layer that is made of data has such a level; any other level is 42
+module _ (room format width start level : ℕ) (follow source : List ℕ) (delta : DeltaFormat format width start) where
+  pub level-given : numberOf (encode room format level follow source .answer) ≡ 0 → (1 ≤ level) × (level ≤ 3)
+  level-given carried =
+      level-encoded room format width start level follow source delta
+      (encode-zero room format level follow source carried)
 
-  pub other-level-given : (level ≡ 0) ⊎ (3 < level) → encode room format level follow s ≡ refusing (Refused 42 0)
-  other-level-given = level-not-encoded room format w start level follow s d
+  pub other-level-given : (level ≡ 0) ⊎ (3 < level) → encode room format level follow source ≡ refusing (Refused 42 0)
+  other-level-given = level-not-encoded room format width start level follow source delta
 
 -- "An opened layer hands its block to the choice of format, which opens the next layer, eight at most"
 -- (`filters::undo`): a layer that encoding made, where some may still be opened, and where none may
-module _ (room room' format level : ℕ) (follow s : List ℕ) (y : Bytes s) (z : Bytes follow) (carried : numberOf (encode room format level follow s .answer) ≡ 0) (fits : length s ≤ room') where
-  pub layer-in-chain : (left : ℕ) → undoFrom (suc left) room' (encode room format level follow s .bytes) ≡ undoFrom left room' s
-  layer-in-chain left = chain-after-encode room room' format level follow s y z (encode-zero room format level follow s carried) fits left
+module _ (room room' format level : ℕ) (follow source : List ℕ) (source-bytes : Bytes source) (follow-bytes : Bytes follow)
+    (carried : numberOf (encode room format level follow source .answer) ≡ 0) (fits : length source ≤ room') where
+  pub layer-in-chain : (left : ℕ)
+      → undoFrom (suc left) room' (encode room format level follow source .bytes) ≡ undoFrom left room' source
+  layer-in-chain left =
+      chain-after-encode room room' format level follow source source-bytes follow-bytes
+      (encode-zero room format level follow source carried) fits left
 
-  pub ninth-filter : undoFrom 0 room' (encode room format level follow s .bytes) ≡ refusing (Refused 44 0)
-  ninth-filter = ninth-after-encode room room' format level follow s y z (encode-zero room format level follow s carried) fits
+  pub ninth-filter : undoFrom 0 room' (encode room format level follow source .bytes) ≡ refusing (Refused 44 0)
+  ninth-filter =
+      ninth-after-encode room room' format level follow source source-bytes follow-bytes
+      (encode-zero room format level follow source carried) fits
 
 -- so eight filters are undone, and the ninth is refused
 pub eight-filters : (undo 32 (under 8 (0 ∷ 7 ∷ [])) ≡ making (7 ∷ [])) × (undo 32 (under 9 (0 ∷ 7 ∷ [])) ≡ refusing (Refused 44 0))
 eight-filters = eight-at-most
 
 -- SCF samples: encode after undo
-pub encoding-undoes-samples : (room room' precision : ℕ) (s : List ℕ) → Bytes s → length s ≤ room' → numberOf (undoSamples room precision s .answer) ≡ 0
-    → encodeSamples room' precision (undoSamples room precision s .bytes) ≡ making s
-encoding-undoes-samples room room' precision s y fits carried = encode-after-undo-samples room room' precision s y fits (undo-samples-zero room precision s carried)
+pub encoding-undoes-samples : (room room' precision : ℕ) (source : List ℕ) → Bytes source → length source ≤ room'
+    → numberOf (undoSamples room precision source .answer) ≡ 0
+    → encodeSamples room' precision (undoSamples room precision source .bytes) ≡ making source
+encoding-undoes-samples room room' precision source y fits carried =
+    encode-after-undo-samples room room' precision source y fits (undo-samples-zero room precision source carried)
 
 -- "Encode after undo returns the block for 64, 65, 66, 72 (same level and follow bytes)"
-pub encoding-undoes-filter : (room room' level : ℕ) (follow b : List ℕ) → Bytes b → numberOf (undoLayer room b .answer) ≡ 0 → SameFor (filterAt b) b level follow → length b ≤ room'
-    → encode room' (getD b 0 0) level follow (undoLayer room b .bytes) ≡ making b
-encoding-undoes-filter room room' level follow b y carried same fits = encode-after-undo room room' level follow b y (layer-zero room b carried) same fits
+pub encoding-undoes-filter : (room room' level : ℕ) (follow block : List ℕ) → Bytes block
+    → numberOf (undoLayer room block .answer) ≡ 0 → SameFor (filterAt block) block level follow → length block ≤ room'
+    → encode room' (getD block 0 0) level follow (undoLayer room block .bytes) ≡ making block
+encoding-undoes-filter room room' level follow block y carried same fits =
+    encode-after-undo room room' level follow block y (layer-zero room block carried) same fits
 
 -- "not for 70, 71, where a small value may stand in long form": 5 in long form is undone to the unit, and the unit is
 -- encoded in one byte

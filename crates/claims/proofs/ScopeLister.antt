@@ -30,28 +30,35 @@ text-of-E = text-in-E
 
 -- "A read's line is position, name, N, first, last, insert": of an accepted file of at most 65,536 bytes the text is
 -- the header's line, as in E, then one line for each read, in order
-pub record Listed (b : List ℕ) : Type 0 where
+pub record Listed (file : List ℕ) : Type 0 where
   pub lines : List (List ℕ)
-  pub count : length lines ≡ length (parse b .reads)
+  pub count : length lines ≡ length (parse file .reads)
   -- with a space between them, and the end of the line
-  pub line : (i : ℕ) → i < length (parse b .reads) → getD lines i []
-      ≡ decimal i ++ (32 ∷ []) ++ orDash (readAt (parse b) i .name) ++ (32 ∷ []) ++ decimal (length (readAt (parse b) i .bases)) ++ (32 ∷ [])
-      ++ decimal (insertFirst (readAt (parse b) i)) ++ (32 ∷ []) ++ decimal (insertLast (readAt (parse b) i)) ++ (32 ∷ [])
-      ++ orDash (insertOf (readAt (parse b) i) (readAt (parse b) i .bases)) ++ (10 ∷ [])
+  pub line : (position : ℕ) → position < length (parse file .reads) → getD lines position []
+      ≡ decimal position ++ (32 ∷ []) ++ orDash (readAt (parse file) position .name) ++ (32 ∷ [])
+      ++ decimal (length (readAt (parse file) position .bases)) ++ (32 ∷ [])
+      ++ decimal (insertFirst (readAt (parse file) position)) ++ (32 ∷ [])
+      ++ decimal (insertLast (readAt (parse file) position)) ++ (32 ∷ [])
+      ++ orDash (insertOf (readAt (parse file) position) (readAt (parse file) position .bases)) ++ (10 ∷ [])
   -- "flows ", " key ", " reads "
-  pub text : printed b
-      ≡ (102 ∷ 108 ∷ 111 ∷ 119 ∷ 115 ∷ 32 ∷ []) ++ decimal (length (parse b .flow-characters)) ++ (32 ∷ 107 ∷ 101 ∷ 121 ∷ 32 ∷ []) ++ orDash (parse b .key)
-      ++ (32 ∷ 114 ∷ 101 ∷ 97 ∷ 100 ∷ 115 ∷ 32 ∷ []) ++ decimal (length (parse b .reads)) ++ (10 ∷ []) ++ flatten lines
+  pub text : printed file
+      ≡ (102 ∷ 108 ∷ 111 ∷ 119 ∷ 115 ∷ 32 ∷ []) ++ decimal (length (parse file .flow-characters))
+      ++ (32 ∷ 107 ∷ 101 ∷ 121 ∷ 32 ∷ []) ++ orDash (parse file .key)
+      ++ (32 ∷ 114 ∷ 101 ∷ 97 ∷ 100 ∷ 115 ∷ 32 ∷ []) ++ decimal (length (parse file .reads)) ++ (10 ∷ [])
+      ++ flatten lines
 
-pub text-of-file : (b : List ℕ) → length b ≤ 65536 → fileTest b ≡ Accepted → Listed b
+pub text-of-file : (file : List ℕ) → length file ≤ 65536 → fileTest file ≡ Accepted → Listed file
 unfolding fileLines
-text-of-file b h e = record {
-  lines = linesOf 0 (parse b .reads);
-  count = lines-counted 0 (parse b .reads);
-  line = λ i l. rw zero-add at (line-at 0 (parse b .reads) i l) ∙ read-line i _ _ _ _ _;
+text-of-file file h e = record {
+  lines = linesOf 0 (parse file .reads);
+  count = lines-counted 0 (parse file .reads);
+  line = λ position l. rw zero-add at (line-at 0 (parse file .reads) position l) ∙ read-line position _ _ _ _ _;
   text =
-      printed-accepted b h e
-      ∙ rw (header-line (length (parse b .flow-characters)) (parse b .key) (length (parse b .reads)), lines-together 0 (parse b .reads));
+      printed-accepted file h e
+      ∙ rw (
+        header-line (length (parse file .flow-characters)) (parse file .key) (length (parse file .reads)),
+        lines-together 0 (parse file .reads),
+      );
 }
 
 -- the number that decimal digits spell is the number: every number in these lines is of 64 bits
@@ -63,22 +70,26 @@ pub dash-for-empty : (xs : List ℕ) → (length xs ≡ 0 → orDash xs ≡ 45 �
 dash-for-empty xs = (dash xs, word xs)
 
 -- "A refusal is one line and nothing else, as `refused 9 at 48`"
-pub text-of-refusal : (b : List ℕ) (n p : ℕ) → length b ≤ 65536 → fileTest b ≡ Refused n p
-    → printed b ≡ (114 ∷ 101 ∷ 102 ∷ 117 ∷ 115 ∷ 101 ∷ 100 ∷ 32 ∷ []) ++ decimal n ++ (32 ∷ 97 ∷ 116 ∷ 32 ∷ []) ++ decimal p ++ (10 ∷ [])
-text-of-refusal b n p h e = printed-refused b n p h e ∙ refusal-line n p
+pub text-of-refusal : (file : List ℕ) (number place : ℕ) → length file ≤ 65536 → fileTest file ≡ Refused number place
+    → printed file
+    ≡ (114 ∷ 101 ∷ 102 ∷ 117 ∷ 115 ∷ 101 ∷ 100 ∷ 32 ∷ []) ++ decimal number ++ (32 ∷ 97 ∷ 116 ∷ 32 ∷ [])
+    ++ decimal place ++ (10 ∷ [])
+text-of-refusal file number place h e = printed-refused file number place h e ∙ refusal-line number place
 
 -- E with a clip of 4 prints that line
 pub refusal-of-clip : printed (set eBytes 49 4) ≡ 114 ∷ 101 ∷ 102 ∷ 117 ∷ 115 ∷ 101 ∷ 100 ∷ 32 ∷ 57 ∷ 32 ∷ 97 ∷ 116 ∷ 32 ∷ 52 ∷ 56 ∷ 10 ∷ []
 refusal-of-clip = text-of-clip
 
 -- "longer input than 65,536 bytes prints `too long`"
-pub text-too-long : (b : List ℕ) → 65536 < length b → printed b ≡ 116 ∷ 111 ∷ 111 ∷ 32 ∷ 108 ∷ 111 ∷ 110 ∷ 103 ∷ 10 ∷ []
+pub text-too-long : (file : List ℕ) → 65536 < length file
+    → printed file ≡ 116 ∷ 111 ∷ 111 ∷ 32 ∷ 108 ∷ 111 ∷ 110 ∷ 103 ∷ 10 ∷ []
 text-too-long = printed-long
 
 -- the lister's buffer (`listing::print_room`) holds any of these texts, so its answer is 0 throughout
-pub text-fits : (b : List ℕ) → Bytes b → fitted 458816 (printed b) ≡ record { answer = Accepted; text = printed b }
-text-fits b y = fits 458816 (printed b) (printed-most b y)
+pub text-fits : (file : List ℕ) → Bytes file
+    → fitted 458816 (printed file) ≡ record { answer = Accepted; text = printed file }
+text-fits file y = fits 458816 (printed file) (printed-most file y)
 
 -- and in any buffer a text is refused, with 26, exactly if it is longer
 pub text-refused : (room : ℕ) (text : List ℕ) → (fitted room text .answer ≡ Refused 26 0) ↔ (room < length text)
-text-refused room text = (longer room text, (λ h. ap (λ (f : Fitted). f .answer) (fits-not room text h)))
+text-refused room text = (longer room text, (λ h. ap (λ (result : Fitted). result .answer) (fits-not room text h)))

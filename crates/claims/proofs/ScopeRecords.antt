@@ -21,23 +21,30 @@ use Rattle.sff_correction.proofs.InOrder.{rows-agree}
 -- A well-formed record says one correction, which keeps the rules and is laid out as that record.
 -- Shuts out:
 --   - a record of which one clip is read at another's place (sff_correction/clip_of_another_place)
-pub what-a-record-says : (r : List ℕ) → Bytes r → recordTest r ≡ Accepted → ValidCorrection (parseRecord r) × (layoutRecord (parseRecord r) ≡ r)
-what-a-record-says r y e = (parsed-valid r y e, parsed-laid r y e)
+pub what-a-record-says : («record» : List ℕ) → Bytes «record» → recordTest «record» ≡ Accepted
+    → ValidCorrection (parseRecord «record») × (layoutRecord (parseRecord «record») ≡ «record»)
+what-a-record-says «record» y e = (parsed-valid «record» y e, parsed-laid «record» y e)
 
 -- And the record of a correction that keeps the rules is well formed and says it.
-pub the-record-of : (c : Correction) → ValidCorrection c → (recordTest (layoutRecord c) ≡ Accepted) × (parseRecord (layoutRecord c) ≡ c)
-the-record-of c v = (record-taken c v, laid-parsed c v)
+pub the-record-of : (correction : Correction) → ValidCorrection correction
+    → (recordTest (layoutRecord correction) ≡ Accepted) × (parseRecord (layoutRecord correction) ≡ correction)
+the-record-of correction v = (record-taken correction v, laid-parsed correction v)
 
 -- The correction's own reasons as tests (21, 22, 25, 23, 24, 26, in this order) and in words of the model agree row by
 -- row.
 -- Shuts out:
 --   - a test in another's row (sff_correction/index_before_name)
 --   - a test that asks for the name of a read that is not there (sff_correction/name_of_no_read)
-pub tests-agree : (room : ℕ) (c : Correction) (f : File) → RowByRow (reasonRows room c f) (ownReasons room c f)
+pub tests-agree : (room : ℕ) (correction : Correction) (content : File)
+    → RowByRow (reasonRows room correction content) (ownReasons room correction content)
 tests-agree = rows-agree
 
 -- Without a read at the position only 21 and 25 can hold: the others speak of that read.
-pub without-a-read : (room : ℕ) (c : Correction) (f : File) → length (f .reads) ≤ c .position
-    → (otherName room c f ≡ false) × (clipAbove room c f ≡ false) × (nameBorne room c f ≡ false) × (noRoom room c f ≡ false)
+pub without-a-read : (room : ℕ) (correction : Correction) (content : File)
+    → length (content .reads) ≤ correction .position
+    → (otherName room correction content ≡ false) × (clipAbove room correction content ≡ false)
+    × (nameBorne room correction content ≡ false) × (noRoom room correction content ≡ false)
 unfolding otherName clipAbove nameBorne noRoom
-without-a-read room c f h = let e : hasTarget c f ≡ false = le-ltb (c .position) (length (f .reads)) h in (rw e, rw e, rw e, rw e)
+without-a-read room correction content h =
+    let e : hasTarget correction content ≡ false = le-ltb (correction .position) (length (content .reads)) h in
+    (rw e, rw e, rw e, rw e)

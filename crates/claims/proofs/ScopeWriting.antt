@@ -32,11 +32,13 @@ bad-index-exactly = index-bad
 
 -- 8 is answered of such an index alone, and at 8; the index of an accepted header is absent, or has an offset and a
 -- length of 8 or more that is a multiple of 8
-pub header-answers-eight : (b : List ℕ) (p : ℕ) → headerTest b ≡ Refused 8 p → (p ≡ 8) × BadIndex (number 8 8 b) (number 4 16 b)
+pub header-answers-eight : (file : List ℕ) (place : ℕ) → headerTest file ≡ Refused 8 place
+    → (place ≡ 8) × BadIndex (number 8 8 file) (number 4 16 file)
 header-answers-eight = header-eight
 
-pub accepted-index : (b : List ℕ) → headerTest b ≡ Accepted
-    → ((number 8 8 b ≡ 0) × (number 4 16 b ≡ 0)) ⊎ ((0 < number 8 8 b) × (8 ≤ number 4 16 b) × (number 4 16 b % 8 ≡ 0))
+pub accepted-index : (file : List ℕ) → headerTest file ≡ Accepted
+    → ((number 8 8 file ≡ 0) × (number 4 16 file ≡ 0))
+    ⊎ ((0 < number 8 8 file) × (8 ≤ number 4 16 file) × (number 4 16 file % 8 ≡ 0))
 accepted-index = header-index
 
 -- "A writer or corrector also answers the file's length afterwards (the length given if nothing is done; 0 for a
@@ -45,38 +47,55 @@ pub refused-new-file : (buffer characters key : List ℕ) → (numberOf (newOutc
 unfolding newOutcome
 refused-new-file buffer characters key h = refused-or _ _ _ h
 
-pub refused-append : (buffer : List ℕ) (len : ℕ) (r : Read) → (numberOf (appendOutcome buffer len r .answer) ≡ 0 → ⊥) → appendOutcome buffer len r .length ≡ len
+pub refused-append : (buffer : List ℕ) (len : ℕ) (read : Read)
+    → (numberOf (appendOutcome buffer len read .answer) ≡ 0 → ⊥) → appendOutcome buffer len read .length ≡ len
 unfolding appendOutcome
-refused-append buffer len r h = refused-or _ _ _ h
+refused-append buffer len read h = refused-or _ _ _ h
 
 -- WRITING. An append that is carried out leaves, at the front of the buffer, the file written afresh with one read
 -- more, which keeps the rules
-pub appended-afresh : (buffer : List ℕ) (len : ℕ) (r : Read) → Bytes buffer → Lent r → appendTest buffer len r ≡ Accepted
-    → (appendBuffer buffer len r ≡ putAt 0 (layout (withReads (parse (take len buffer) .reads ++ (r ∷ [])) (parse (take len buffer)))) buffer)
-    × Valid (withReads (parse (take len buffer) .reads ++ (r ∷ [])) (parse (take len buffer)))
-appended-afresh buffer len r y t a = let z = bytes-take len buffer y in (append-afresh buffer len r z a, append-valid buffer len r z a t)
+pub appended-afresh : (buffer : List ℕ) (len : ℕ) (read : Read) → Bytes buffer → Lent read
+    → appendTest buffer len read ≡ Accepted
+    → (appendBuffer buffer len read
+    ≡ putAt 0 (layout (withReads (parse (take len buffer) .reads ++ (read ∷ [])) (parse (take len buffer)))) buffer)
+    × Valid (withReads (parse (take len buffer) .reads ++ (read ∷ [])) (parse (take len buffer)))
+appended-afresh buffer len read y t a =
+    let z = bytes-take len buffer y in
+    (append-afresh buffer len read z a, append-valid buffer len read z a t)
 
 -- a read's own reasons, 30, 5, 6, 9, 10 and 11, hold exactly if no accepted file with these flow characters could
 -- hold it
-pub read-refused-exactly : (b : List ℕ) (r : Read) → Bytes b → fileTest b ≡ Accepted → Lent r → (givenTest (flowCharacters b) r ≡ Accepted) ↔ Holder (flowCharacters b) r
+pub read-refused-exactly : (file : List ℕ) (read : Read) → Bytes file → fileTest file ≡ Accepted → Lent read
+    → (givenTest (flowCharacters file) read ≡ Accepted) ↔ Holder (flowCharacters file) read
 read-refused-exactly = given-exactly
 
 -- and so of the whole append, where the file has no index and fewer reads than the count can say, and the buffer has
 -- room
-pub append-refuses-exactly : (buffer : List ℕ) (len : ℕ) (r : Read) → Bytes buffer → Lent r → len ≤ length buffer → fileTest (take len buffer) ≡ Accepted
-    → declared (indexOffset (take len buffer)) (indexLength (take len buffer)) ≡ false → readCount (take len buffer) < 4294967295 → len + length (layoutRead r) ≤ length buffer
-    → (numberOf (appendTest buffer len r) ≡ 0) ↔ Holder (flowCharacters (take len buffer)) r
-append-refuses-exactly buffer len r y t h e i n m =
-    let a = append-exactly buffer len r y t h e i n m in
-    ((λ z. a .0 (append-zero buffer len r z)), (λ k. ap numberOf (a .1 k)))
+pub append-refuses-exactly : (buffer : List ℕ) (len : ℕ) (read : Read) → Bytes buffer → Lent read → len ≤ length buffer
+    → fileTest (take len buffer) ≡ Accepted
+    → declared (indexOffset (take len buffer)) (indexLength (take len buffer)) ≡ false
+    → readCount (take len buffer) < 4294967295 → len + length (layoutRead read) ≤ length buffer
+    → (numberOf (appendTest buffer len read) ≡ 0) ↔ Holder (flowCharacters (take len buffer)) read
+append-refuses-exactly buffer len read y t h e i n m =
+    let a = append-exactly buffer len read y t h e i n m in
+    ((λ z. a .0 (append-zero buffer len read z)), (λ k. ap numberOf (a .1 k)))
 
 -- CORRECTION RECORDS. "Writing afresh .. Without one, a new file and an append for each read leave these bytes in any
 -- buffer that holds them": the bytes at its front, all else as it was
-pub written-afresh : (f : File) → f .index ≡ noIndex → Valid f → (buffer : List ℕ) → length (layout f) ≤ length buffer
-    → writeEach buffer f ≡ record { outcome = record { answer = Accepted; length = length (layout f) }; buffer = putAt 0 (layout f) buffer }
+pub written-afresh : (content : File) → content .index ≡ noIndex → Valid content → (buffer : List ℕ)
+    → length (layout content) ≤ length buffer
+    → writeEach buffer content
+    ≡ record {
+      outcome = record { answer = Accepted; length = length (layout content) };
+      buffer = putAt 0 (layout content) buffer;
+    }
 written-afresh = write-each
 
 -- they are all carried out exactly if the file keeps the rules and the buffer holds it
-pub written-exactly : (f : File) → f .index ≡ noIndex → (buffer : List ℕ) → AllLent (f .reads)
-    → (numberOf (writeEach buffer f .outcome .answer) ≡ 0) ↔ (Valid f × (length (layout f) ≤ length buffer))
-written-exactly f e buffer t = ((λ a. write-exactly f e buffer t .0 (written-zero buffer f a)), (λ k. ap numberOf (write-exactly f e buffer t .1 k)))
+pub written-exactly : (content : File) → content .index ≡ noIndex → (buffer : List ℕ) → AllLent (content .reads)
+    → (numberOf (writeEach buffer content .outcome .answer) ≡ 0)
+    ↔ (Valid content × (length (layout content) ≤ length buffer))
+written-exactly content e buffer t = (
+  (λ a. write-exactly content e buffer t .0 (written-zero buffer content a)),
+  (λ k. ap numberOf (write-exactly content e buffer t .1 k)),
+)

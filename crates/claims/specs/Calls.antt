@@ -133,72 +133,80 @@ abbrev pub zeros : List ℕ → List ℕ
 zeros buffer = replicate (length buffer) 0
 
 abbrev pub row : Call → Row
-row (file-test b) = reading (fileTest b) fileNumbers
-row (header-test b) = reading (headerTest b) headerNumbers
-row (flow-characters b) = reading (headerTest b) headerNumbers
-row (key b) = reading (headerTest b) headerNumbers
-row (reader-fresh b) = reading (headerTest b) headerNumbers
-row (reader-step b s) = reading (stepAnswer (step b s)) stepNumbers
-row (view-test b v) = reading (viewTest b v) viewNumbers
-row (view-name b v) = reading (viewTest b v) viewNumbers
-row (view-values b v) = reading (viewTest b v) viewNumbers
-row (view-increments b v) = reading (viewTest b v) viewNumbers
-row (view-bases b v) = reading (viewTest b v) viewNumbers
-row (view-qualities b v) = reading (viewTest b v) viewNumbers
-row (view-insert b v) = reading (viewTest b v) viewNumbers
-row (first-base b v) = reading (viewTest b v) viewNumbers
-row (last-base b v) = reading (viewTest b v) viewNumbers
-row (position-test b i) = reading (positionTest b i) positionNumbers
-row (insert b i) = reading (positionTest b i) positionNumbers
-row (insert-ends b i) = reading (positionTest b i) positionNumbers
-row (signal-test b i) = reading (signalTest b i) signalNumbers
-row (signal b i) = reading (signalTest b i) signalNumbers
+row (file-test file) = reading (fileTest file) fileNumbers
+row (header-test file) = reading (headerTest file) headerNumbers
+row (flow-characters file) = reading (headerTest file) headerNumbers
+row (key file) = reading (headerTest file) headerNumbers
+row (reader-fresh file) = reading (headerTest file) headerNumbers
+row (reader-step file state) = reading (stepAnswer (step file state)) stepNumbers
+row (view-test file view) = reading (viewTest file view) viewNumbers
+row (view-name file view) = reading (viewTest file view) viewNumbers
+row (view-values file view) = reading (viewTest file view) viewNumbers
+row (view-increments file view) = reading (viewTest file view) viewNumbers
+row (view-bases file view) = reading (viewTest file view) viewNumbers
+row (view-qualities file view) = reading (viewTest file view) viewNumbers
+row (view-insert file view) = reading (viewTest file view) viewNumbers
+row (first-base file view) = reading (viewTest file view) viewNumbers
+row (last-base file view) = reading (viewTest file view) viewNumbers
+row (position-test file position) = reading (positionTest file position) positionNumbers
+row (insert file position) = reading (positionTest file position) positionNumbers
+row (insert-ends file position) = reading (positionTest file position) positionNumbers
+row (signal-test file position) = reading (signalTest file position) signalNumbers
+row (signal file position) = reading (signalTest file position) signalNumbers
 -- "A refusal changes nothing"
-row (new-file buffer characters k) = writing (newOutcome buffer characters k .answer) newNumbers (newBuffer buffer characters k) buffer
-row (append buffer len r) = writing (appendOutcome buffer len r .answer) appendNumbers (appendBuffer buffer len r) buffer
-row (record-test r) = reading (recordTest r) recordNumbers
+row (new-file buffer characters key-characters) =
+    writing (newOutcome buffer characters key-characters .answer) newNumbers
+    (newBuffer buffer characters key-characters) buffer
+row (append buffer len read) =
+    writing (appendOutcome buffer len read .answer) appendNumbers (appendBuffer buffer len read) buffer
+row (record-test «record») = reading (recordTest «record») recordNumbers
 -- "A refused correction changes no byte of the file's buffer"
-row (correct buffer len r) = writing (correctOutcome buffer len r .answer) correctNumbers (correctBuffer buffer len r) buffer
+row (correct buffer len «record») =
+    writing (correctOutcome buffer len «record» .answer) correctNumbers (correctBuffer buffer len «record») buffer
 -- "The first refusal ends it; earlier ones stand": the buffer as a list of these alone leaves it
-row (correct-list buffer len l) = record {
-  answer = runList buffer len l .outcome .answer;
+row (correct-list buffer len list) = record {
+  answer = runList buffer len list .outcome .answer;
   numbers = correctNumbers;
-  memory = runList buffer len l .buffer ∷ [];
-  if-refused = runList buffer len (firstRecords (runList buffer len l .outcome .count) l) .buffer ∷ [];
+  memory = runList buffer len list .buffer ∷ [];
+  if-refused = runList buffer len (firstRecords (runList buffer len list .outcome .count) list) .buffer ∷ [];
 }
 -- "A refusal zeroes both"
-row (undo-block b first second) = record {
-  answer = undo (roomOf first second) b .answer;
+row (undo-block block first second) = record {
+  answer = undo (roomOf first second) block .answer;
   numbers = undoNumbers;
-  memory = firstAfter (undo (roomOf first second) b) first ∷ secondAfter second ∷ [];
+  memory = firstAfter (undo (roomOf first second) block) first ∷ secondAfter second ∷ [];
   if-refused = zeros first ∷ zeros second ∷ [];
 }
-row (undo-layer b first second) = record {
-  answer = undoLayer (roomOf first second) b .answer;
+row (undo-layer block first second) = record {
+  answer = undoLayer (roomOf first second) block .answer;
   numbers = layerNumbers;
-  memory = firstAfter (undoLayer (roomOf first second) b) first ∷ secondAfter second ∷ [];
+  memory = firstAfter (undoLayer (roomOf first second) block) first ∷ secondAfter second ∷ [];
   if-refused = zeros first ∷ zeros second ∷ [];
 }
 -- "in that order, changing nothing"
-row (encode-layer format level follow s out) =
-    writing (encode (length out) format level follow s .answer) encodeNumbers (outAfter (encode (length out) format level follow s) out) out
-row (encode-samples precision s out) =
-    writing (encodeSamples (length out) precision s .answer) samplesNumbers (outAfter (encodeSamples (length out) precision s) out) out
-row (undo-samples precision s out) =
-    writing (undoSamples (length out) precision s .answer) samplesNumbers (outAfter (undoSamples (length out) precision s) out) out
+row (encode-layer format level follow source out) =
+    writing (encode (length out) format level follow source .answer) encodeNumbers
+    (outAfter (encode (length out) format level follow source) out) out
+row (encode-samples precision source out) =
+    writing (encodeSamples (length out) precision source .answer) samplesNumbers
+    (outAfter (encodeSamples (length out) precision source) out) out
+row (undo-samples precision source out) =
+    writing (undoSamples (length out) precision source .answer) samplesNumbers
+    (outAfter (undoSamples (length out) precision source) out) out
 -- 26 exactly if the text is longer than the buffer, which is then as it was; or zero, where it is one of an undo's
-row (list-file b out) = putting (listing b) out
-row (print-listing b out) = putting (printed b) out
-row (report-run o out) = putting (reported o) out
+row (list-file file out) = putting (listing file) out
+row (print-listing input out) = putting (printed input) out
+row (report-run outcome out) = putting (reported outcome) out
 row (report-too-long out) = putting tooLong out
-row (print-block b first second) = record {
-  answer = printedBy first second b .answer;
+row (print-block input first second) = record {
+  answer = printedBy first second input .answer;
   numbers = textNumbers;
-  memory = filled (length first) (printedBy first second b .text) ∷ secondAfter second ∷ [];
+  memory = filled (length first) (printedBy first second input .text) ∷ secondAfter second ∷ [];
   if-refused = zeros first ∷ zeros second ∷ [];
 }
-row (sffstore-test b) = reading (fileTest b) fileNumbers
-row (sffstore-correct buffer len r) = writing (correctOutcome buffer len r .answer) correctNumbers (correctBuffer buffer len r) buffer
+row (sffstore-test file) = reading (fileTest file) fileNumbers
+row (sffstore-correct buffer len «record») =
+    writing (correctOutcome buffer len «record» .answer) correctNumbers (correctBuffer buffer len «record») buffer
 
 -- every number of document 01: "Order of the file's tests", "Writing", "Correction records", "Filtered blocks"
 abbrev pub documentNumbers : List ℕ

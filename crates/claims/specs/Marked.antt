@@ -32,16 +32,19 @@ pub data Case : Type 0 where
   filtered : ℕ → ℕ → List ℕ → List ℕ → Case
 
 abbrev pub Holds : Case → Type 0
-Holds (written f b) = layout f ≡ b
-Holds (sized b n) = length b ≡ n
-Holds (tested b a) = fileTest b ≡ a
-Holds (inserted b i first last xs) = (fileFirst b i ≡ first) × (fileLast b i ≡ last) × (fileInsert b i ≡ xs)
-Holds (corrected b len r o c) = (correctOutcome b len r ≡ o) × (correctBuffer b len r ≡ c)
-Holds (filtered format level s b) = (encode (length b) format level [] s ≡ making b) × (undoLayer (length s) b ≡ making s)
+Holds (written content file) = layout content ≡ file
+Holds (sized file n) = length file ≡ n
+Holds (tested file answer) = fileTest file ≡ answer
+Holds (inserted file position first last bases) =
+    (fileFirst file position ≡ first) × (fileLast file position ≡ last) × (fileInsert file position ≡ bases)
+Holds (corrected buffer len «record» outcome after) =
+    (correctOutcome buffer len «record» ≡ outcome) × (correctBuffer buffer len «record» ≡ after)
+Holds (filtered format level source block) =
+    (encode (length block) format level [] source ≡ making block) × (undoLayer (length source) block ≡ making source)
 
 abbrev pub All : List Case → Type 0
 All [] = Unit {0}
-All (c ∷ cs) = Holds c × All cs
+All (case ∷ cases) = Holds case × All cases
 
 -- "File E: flows TACG, key T, one read r1, values 100 0 200 0, indexes 1 2 0, bases TCC, qualities 40 40 40, quality
 -- left 2"

@@ -13,8 +13,12 @@ use Rattle.filter_format.specs.Block.{Known, headerLength, dataAt, badData, und
 
 -- the tests of the data and of the room, the end of `contentsTest`
 unfoldable pub dataTest : Filter → ℕ → List ℕ → Answer
-dataTest f room b = when (badData f (dataAt f b)) 43 0 then when (ltb room (length (undone f b))) 26 0
+dataTest filter room block =
+    when (badData filter (dataAt filter block)) 43 0
+    then when (ltb room (length (undone filter block))) 26 0
 
--- what undoing the filter f of a block b asks, and the tests give: the block is right, and its result has room
+-- what undoing the filter of a block asks, and the tests give: the block is right, and its result has room
 abbrev pub Opens : Filter → List ℕ → ℕ → Type 0
-Opens f b room = (Known f) × (headerLength f ≤ length b) × (badData f (dataAt f b) ≡ false) × (length (undone f b) ≤ room)
+Opens filter block room =
+    (Known filter) × (headerLength filter ≤ length block) × (badData filter (dataAt filter block) ≡ false)
+    × (length (undone filter block) ≤ room)

@@ -118,24 +118,29 @@ module _ (room format level : ℕ) (follow s : List ℕ) (y : Bytes s) (z : Byte
   unfolding encoded headerRest encodedData
   predicted-block f = (followed follow s, data-predicted follow s z y, block-is ∙ rw f)
 
-pub encoded-by-rule : (room level : ℕ) (follow s : List ℕ) → Bytes s → Bytes follow → EncodedByRule room level follow s
+pub encoded-by-rule : (room level : ℕ) (follow source : List ℕ) → Bytes source → Bytes follow
+    → EncodedByRule room level follow source
 unfolding filterOf headerLength
-encoded-by-rule room level follow s y z = record {
-  by-64 = λ c. delta-block room 64 level follow s y z c 1 refl;
-  by-65 = λ c. delta-block room 65 level follow s y z c 2 refl;
-  by-66 = λ c. delta-block room 66 level follow s y z c 4 refl;
-  by-70 = λ c. shortened-block room 70 level follow s y z c 2 refl;
-  by-71 = λ c. shortened-block room 71 level follow s y z c 4 refl;
-  by-72 = λ c. predicted-block room 72 level follow s y z c refl;
+encoded-by-rule room level follow source y z = record {
+  by-64 = λ c. delta-block room 64 level follow source y z c 1 refl;
+  by-65 = λ c. delta-block room 65 level follow source y z c 2 refl;
+  by-66 = λ c. delta-block room 66 level follow source y z c 4 refl;
+  by-70 = λ c. shortened-block room 70 level follow source y z c 2 refl;
+  by-71 = λ c. shortened-block room 71 level follow source y z c 4 refl;
+  by-72 = λ c. predicted-block room 72 level follow source y z c refl;
 }
 
 -- SCF samples
-pub samples-by-rule : (room precision : ℕ) (s : List ℕ) → Bytes s → numberOf (encodeSamples room precision s .answer) ≡ 0 → DeltaOf [] precision 2 s (encodeSamples room precision s .bytes)
+pub samples-by-rule : (room precision : ℕ) (source : List ℕ) → Bytes source
+    → numberOf (encodeSamples room precision source .answer) ≡ 0
+    → DeltaOf [] precision 2 source (encodeSamples room precision source .bytes)
 unfolding encodeSamples deltaBytes
-samples-by-rule room precision s y c =
-    let ok = tested-ok _ _ (encode-samples-zero room precision s c) in
-    let whole = samples-whole room precision s ok in (
-      deltas (range precision) 2 (unitsOf precision s),
-      deltas-rounds (range precision) (range-positive precision) 2 (unitsOf precision s) (below-units precision s whole y),
-      ap (λ (r : Result). r .bytes) (tested-makes (samplesTest room precision s) (deltaBytes precision 2 s) ok),
+samples-by-rule room precision source y c =
+    let ok = tested-ok _ _ (encode-samples-zero room precision source c) in
+    let whole = samples-whole room precision source ok in (
+      deltas (range precision) 2 (unitsOf precision source),
+      deltas-rounds (range precision) (range-positive precision) 2 (unitsOf precision source)
+          (below-units precision source whole y),
+      ap (λ (r : Result). r .bytes)
+          (tested-makes (samplesTest room precision source) (deltaBytes precision 2 source) ok),
     )

@@ -66,58 +66,61 @@ zeros-wrong b l h = go (ltb (firstNot isZero 2 4 b) 4) refl
     go false e = let z = zeros-right b l e in absurd (⊎-elim (λ k. k (z .0)) (λ k. k (z .1)) h)
 
 -- a block of such a format: what its header may be
-module _ (room w start : ℕ) (b : List ℕ) (d : DeltaFormat (getD b 0 0) w start) where
-  opened : undoLayer room b .answer ≡ Accepted → (badHeader (Delta w) b ≡ false) × (start ≤ length b)
+module _ (room width start : ℕ) (block : List ℕ) (d : DeltaFormat (getD block 0 0) width start) where
+  opened : undoLayer room block .answer ≡ Accepted → (badHeader (Delta width) block ≡ false) × (start ≤ length block)
   unfolding undoLayer layerTest
   opened e =
-      let x = delta-format (getD b 0 0) w start d in
+      let x = delta-format (getD block 0 0) width start d in
       let c = rw (x .0) at (second-ok _ _ (second-ok _ _ (tested-ok _ _ e))) in
       let s = x .1 in
-      let f = header-fits (Delta w) room b c in
-      (header-right (Delta w) room b c, omega arith)
+      let f = header-fits (Delta width) room block c in
+      (header-right (Delta width) room block c, omega arith)
 
-  pub level-opened : undoLayer room b .answer ≡ Accepted → (1 ≤ levelAt b) × (levelAt b ≤ 3)
+  pub level-opened : undoLayer room block .answer ≡ Accepted → (1 ≤ levelAt block) × (levelAt block ≤ 3)
   unfolding badHeader
-  level-opened e = level-in (levelAt b) (or-left _ _ (opened e .0))
+  level-opened e = level-in (levelAt block) (or-left _ _ (opened e .0))
 
-  pub zeros-opened : start ≡ 4 → undoLayer room b .answer ≡ Accepted → (getD b 2 0 ≡ 0) × (getD b 3 0 ≡ 0)
+  pub zeros-opened : start ≡ 4 → undoLayer room block .answer ≡ Accepted → (getD block 2 0 ≡ 0) × (getD block 3 0 ≡ 0)
   unfolding badHeader
   zeros-opened z e =
       let o = opened e in
       let l = o .1 in
-      let h : headerLength (Delta w) ≡ 4 = delta-format (getD b 0 0) w start d .1 ∙ z in
-      zeros-right b (omega arith) (rw h at (or-right (badLevel (levelAt b)) _ (o .0)))
+      let h : headerLength (Delta width) ≡ 4 = delta-format (getD block 0 0) width start d .1 ∙ z in
+      zeros-right block (omega arith) (rw h at (or-right (badLevel (levelAt block)) _ (o .0)))
 
   -- "42 level or zeros wrong", of a block whose header is not cut short
-  module _ (fits : start ≤ length b) where
-    module _ (bad : badHeader (Delta w) b ≡ true) where
-      contents-refused : contentsTest (Delta w) room b ≡ Refused 42 0
+  module _ (fits : start ≤ length block) where
+    module _ (bad : badHeader (Delta width) block ≡ true) where
+      contents-refused : contentsTest (Delta width) room block ≡ Refused 42 0
       unfolding contentsTest when _then_
       contents-refused =
-          let s = delta-format (getD b 0 0) w start d .1 in
-          rw (le-ltb (length b) (headerLength (Delta w)) (omega arith), bad)
+          let s = delta-format (getD block 0 0) width start d .1 in
+          rw (le-ltb (length block) (headerLength (Delta width)) (omega arith), bad)
 
-      some : eqb (length b) 0 ≡ false
-      some = let s = delta-format (getD b 0 0) w start d .2 in ne-eqb (length b) 0 (λ e. omega arith)
+      some : eqb (length block) 0 ≡ false
+      some = let s = delta-format (getD block 0 0) width start d .2 in ne-eqb (length block) 0 (λ e. omega arith)
 
-      refused-alone : undoLayer room b ≡ refusing (Refused 42 0)
+      refused-alone : undoLayer room block ≡ refusing (Refused 42 0)
       unfolding undoLayer layerTest acceptedOr when _then_
-      refused-alone = rw (some, delta-format (getD b 0 0) w start d .0, contents-refused)
+      refused-alone = rw (some, delta-format (getD block 0 0) width start d .0, contents-refused)
 
-      refused-first : undo room b ≡ refusing (Refused 42 0)
+      refused-first : undo room block ≡ refusing (Refused 42 0)
       unfolding undoFrom blockTest acceptedOr when _then_
-      refused-first = rw (some, delta-format (getD b 0 0) w start d .0, contents-refused)
+      refused-first = rw (some, delta-format (getD block 0 0) width start d .0, contents-refused)
 
-    pub level-refused : (levelAt b ≡ 0) ⊎ (3 < levelAt b) → (undoLayer room b ≡ refusing (Refused 42 0)) × (undo room b ≡ refusing (Refused 42 0))
+    pub level-refused : (levelAt block ≡ 0) ⊎ (3 < levelAt block)
+        → (undoLayer room block ≡ refusing (Refused 42 0)) × (undo room block ≡ refusing (Refused 42 0))
     unfolding badHeader
-    level-refused out = let bad : badHeader (Delta w) b ≡ true = rw (level-out (levelAt b) out) in (refused-alone bad, refused-first bad)
+    level-refused out =
+        let bad : badHeader (Delta width) block ≡ true = rw (level-out (levelAt block) out) in
+        (refused-alone bad, refused-first bad)
 
-    pub zeros-refused : start ≡ 4 → (getD b 2 0 ≡ 0 → ⊥) ⊎ (getD b 3 0 ≡ 0 → ⊥)
-        → (undoLayer room b ≡ refusing (Refused 42 0)) × (undo room b ≡ refusing (Refused 42 0))
+    pub zeros-refused : start ≡ 4 → (getD block 2 0 ≡ 0 → ⊥) ⊎ (getD block 3 0 ≡ 0 → ⊥)
+        → (undoLayer room block ≡ refusing (Refused 42 0)) × (undo room block ≡ refusing (Refused 42 0))
     unfolding badHeader
     zeros-refused z out =
-        let h : headerLength (Delta w) ≡ 4 = delta-format (getD b 0 0) w start d .1 ∙ z in
-        let bad : badHeader (Delta w) b ≡ true = rw (h, zeros-wrong b (omega arith) out) (either (badLevel (levelAt b))) in
+        let h : headerLength (Delta width) ≡ 4 = delta-format (getD block 0 0) width start d .1 ∙ z in
+        let bad : badHeader (Delta width) block ≡ true = rw (h, zeros-wrong block (omega arith) out) (either (badLevel (levelAt block))) in
         (refused-alone bad, refused-first bad)
       where
         either : (t : Bool) → (t || true) ≡ true
@@ -125,16 +128,16 @@ module _ (room w start : ℕ) (b : List ℕ) (d : DeltaFormat (getD b 0 0) w sta
         either false = refl
 
 -- a layer that is made of data
-module _ (room format w start level : ℕ) (follow s : List ℕ) (d : DeltaFormat format w start) where
-  pub level-encoded : encode room format level follow s .answer ≡ Accepted → (1 ≤ level) × (level ≤ 3)
+module _ (room format width start level : ℕ) (follow source : List ℕ) (d : DeltaFormat format width start) where
+  pub level-encoded : encode room format level follow source .answer ≡ Accepted → (1 ≤ level) × (level ≤ 3)
   unfolding encode encodeTest badGiven
   level-encoded e =
       let h = when-ok _ _ _ (first-ok _ _ (second-ok _ _ (tested-ok _ _ e))) in
-      level-in level (rw (delta-format format w start d .0) at h)
+      level-in level (rw (delta-format format width start d .0) at h)
 
-  pub level-not-encoded : (level ≡ 0) ⊎ (3 < level) → encode room format level follow s ≡ refusing (Refused 42 0)
+  pub level-not-encoded : (level ≡ 0) ⊎ (3 < level) → encode room format level follow source ≡ refusing (Refused 42 0)
   unfolding encode encodeTest badGiven acceptedOr when _then_
-  level-not-encoded out = rw (delta-format format w start d .0, level-out level out)
+  level-not-encoded out = rw (delta-format format width start d .0, level-out level out)
 
 -- "not for 70, 71, where a small value may stand in long form": 5 in long form is undone, and encoded it has one byte
 pub long-form : (undoLayer 8 (70 ∷ 128 ∷ 0 ∷ 5 ∷ []) ≡ making (0 ∷ 5 ∷ [])) × (encode 8 70 0 [] (0 ∷ 5 ∷ []) ≡ making (70 ∷ 5 ∷ []))

@@ -151,51 +151,56 @@ raw-none (Narrow w) i = refl
 raw-none Follow i = refl
 raw-none Other i = refl
 
-module _ (room room' format level : ℕ) (follow s : List ℕ) (y : Bytes s) (z : Bytes follow)
-    (ok : encode room format level follow s .answer ≡ Accepted) (fits : length s ≤ room') where
+module _ (room room' format level : ℕ) (follow source : List ℕ) (y : Bytes source) (z : Bytes follow)
+    (ok : encode room format level follow source .answer ≡ Accepted) (fits : length source ≤ room') where
   layer : List ℕ
-  layer = encoded format level follow s
+  layer = encoded format level follow source
 
-  accepted : encodeTest room format level follow s ≡ Accepted
+  accepted : encodeTest room format level follow source ≡ Accepted
   unfolding encode
   accepted = tested-ok _ _ ok
 
-  made : encode room format level follow s .bytes ≡ layer
+  made : encode room format level follow source .bytes ≡ layer
   unfolding encode layer
-  made = ap (λ (r : Result). r .bytes) (tested-makes _ (encoded format level follow s) accepted)
+  made = ap (λ (r : Result). r .bytes) (tested-makes _ (encoded format level follow source) accepted)
 
-  opens : Opens (filterAt layer) layer s
+  opens : Opens (filterAt layer) layer source
   unfolding layer
-  opens = subst (λ (f : Filter). Opens f layer s) (sym (filter-encoded format level follow s)) (encoded-opens room format level follow s accepted y z)
+  opens =
+      subst (λ (f : Filter). Opens f layer source) (sym (filter-encoded format level follow source))
+      (encoded-opens room format level follow source accepted y z)
 
   filters : isFilter (filterAt layer) ≡ true
   unfolding layer
-  filters = ap isFilter (filter-encoded format level follow s) ∙ is-filter room format level follow s accepted
+  filters = ap isFilter (filter-encoded format level follow source) ∙ is-filter room format level follow source accepted
 
   -- "Undo after encode returns the data, both of one layer and with room enough"
-  pub undo-after-encode : undoLayer room' (encode room format level follow s .bytes) ≡ making s
+  pub undo-after-encode : undoLayer room' (encode room format level follow source .bytes) ≡ making source
   unfolding undoLayer layerTest layer
   undo-after-encode =
       rw made
       (tested-makes _ (undone (filterAt layer) layer)
-      (both-ok _ _ (ok-when _ _ _ (some format level follow s)) (both-ok _ _ (ok-when _ _ _ (ap not filters)) (contents-ok room' layer s opens fits)))
-      ∙ ap making (undone-is room' layer s opens))
+      (both-ok _ _ (ok-when _ _ _ (some format level follow source)) (both-ok _ _ (ok-when _ _ _ (ap not filters)) (contents-ok room' layer source opens fits)))
+      ∙ ap making (undone-is room' layer source opens))
 
   -- a layer of a chain: the block within it is what is undone next
-  pub chain-after-encode : (left : ℕ) → undoFrom (suc left) room' (encode room format level follow s .bytes) ≡ undoFrom left room' s
+  pub chain-after-encode : (left : ℕ)
+      → undoFrom (suc left) room' (encode room format level follow source .bytes) ≡ undoFrom left room' source
   unfolding undoFrom blockTest acceptedOr layer
   chain-after-encode left =
       let raw = raw-none (filterAt layer) filters in
       let more : eqb (suc left) 0 ≡ false = ne-eqb (suc left) 0 (λ e. omega arith) in
       let test : blockTest (suc left) room' layer ≡ Accepted =
-      both-ok _ _ (ok-when _ _ _ (some format level follow s))
-      (both-ok _ _ (ok-when _ _ _ (rw (raw, filters))) (both-ok _ _ (ok-when _ _ _ (rw (filters, more))) (contents-ok room' layer s opens fits))) in
-      rw (made, test, raw) (ap (undoFrom left room') (undone-is room' layer s opens))
+      both-ok _ _ (ok-when _ _ _ (some format level follow source))
+      (both-ok _ _ (ok-when _ _ _ (rw (raw, filters))) (both-ok _ _ (ok-when _ _ _ (rw (filters, more))) (contents-ok room' layer source opens fits))) in
+      rw (made, test, raw) (ap (undoFrom left room') (undone-is room' layer source opens))
 
   -- "44 a ninth filter": where no filter may be opened any more
-  pub ninth-after-encode : undoFrom 0 room' (encode room format level follow s .bytes) ≡ refusing (Refused 44 0)
+  pub ninth-after-encode : undoFrom 0 room' (encode room format level follow source .bytes) ≡ refusing (Refused 44 0)
   unfolding undoFrom blockTest acceptedOr when _then_ layer
-  ninth-after-encode = let raw = raw-none (filterAt layer) filters in rw (made, some format level follow s, raw, filters)
+  ninth-after-encode =
+      let raw = raw-none (filterAt layer) filters in
+      rw (made, some format level follow source, raw, filters)
 
 -- a header of format 64, 65 or 66 that was accepted has its zeros
 pub zeros : (x y : ℕ) (t u : Bool) → eqb x 0 ≡ t → eqb y 0 ≡ u → ltb (2 + oneMore t (oneMore u 0)) 4 ≡ false → (x ≡ 0) × (y ≡ 0)
@@ -265,14 +270,16 @@ module _ (b : List ℕ) (y : Bytes b) (level : ℕ) (follow : List ℕ) where
   again Other k h e n l = absurd l
 
 -- "Encode after undo returns the block for 64, 65, 66, 72 (same level and follow bytes)"
-pub encode-after-undo : (room room' level : ℕ) (follow b : List ℕ) → Bytes b → undoLayer room b .answer ≡ Accepted → SameFor (filterAt b) b level follow → length b ≤ room'
-    → encode room' (getD b 0 0) level follow (undoLayer room b .bytes) ≡ making b
+pub encode-after-undo : (room room' level : ℕ) (follow block : List ℕ) → Bytes block
+    → undoLayer room block .answer ≡ Accepted → SameFor (filterAt block) block level follow → length block ≤ room'
+    → encode room' (getD block 0 0) level follow (undoLayer room block .bytes) ≡ making block
 unfolding undoLayer layerTest encode encodeTest encoded undone
-encode-after-undo room room' level follow b y ok same fits =
+encode-after-undo room room' level follow block y ok same fits =
     let test = tested-ok _ _ ok in
-    let contents : contentsTest (filterAt b) room b ≡ Accepted = second-ok _ _ (second-ok _ _ test) in
-    let a = again b y level follow (filterAt b) (known (getD b 0 0)) (header-fits (filterAt b) room b contents) (header-right (filterAt b) room b contents) (data-right (filterAt b) room b contents) same in
+    let contents : contentsTest (filterAt block) room block ≡ Accepted = second-ok _ _ (second-ok _ _ test) in
+    let a = again block y level follow (filterAt block) (known (getD block 0 0)) (header-fits (filterAt block) room block contents) (header-right (filterAt block) room block contents) (data-right (filterAt block) room block contents) same in
     let accepted =
     both-ok _ _ (ok-when _ _ _ (ap not (a .filter)))
-    (both-ok _ _ (ok-when _ _ _ (a .given)) (both-ok _ _ (ok-when _ _ _ (a .units)) (ok-under room' (length (encoded (getD b 0 0) level follow (undone (filterAt b) b))) _ _ (subst (λ (l : List ℕ). length l ≤ room') (sym (a .block-is)) fits)))) in
-    rw (tested-makes (layerTest room b) (undone (filterAt b) b) test) (tested-makes _ _ accepted ∙ ap making (a .block-is))
+    (both-ok _ _ (ok-when _ _ _ (a .given)) (both-ok _ _ (ok-when _ _ _ (a .units)) (ok-under room' (length (encoded (getD block 0 0) level follow (undone (filterAt block) block))) _ _ (subst (λ (l : List ℕ). length l ≤ room') (sym (a .block-is)) fits)))) in
+    rw (tested-makes (layerTest room block) (undone (filterAt block) block) test)
+    (tested-makes _ _ accepted ∙ ap making (a .block-is))

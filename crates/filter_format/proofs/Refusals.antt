@@ -60,42 +60,64 @@ from-numbers (suc left) room b =
     either-numbers undoNumbers (blockTest (suc left) room b) (cond (isRaw (filterAt b)) (making inner) (undoFrom left room inner)) (block-numbers (suc left) room b)
     (cond-keeps (λ (q : Result). Among undoNumbers (q .answer)) (isRaw (filterAt b)) (making inner) (undoFrom left room inner) tt (from-numbers left room inner))
 
-pub undo-numbers : (room : ℕ) (b : List ℕ) → Among undoNumbers (undo room b .answer)
-undo-numbers room b = from-numbers mostFilters room b
+pub undo-numbers : (room : ℕ) (block : List ℕ) → Among undoNumbers (undo room block .answer)
+undo-numbers room block = from-numbers mostFilters room block
 
-pub layer-numbers : (room : ℕ) (b : List ℕ) → Among layerNumbers (undoLayer room b .answer)
+pub layer-numbers : (room : ℕ) (block : List ℕ) → Among layerNumbers (undoLayer room block .answer)
 unfolding undoLayer
-layer-numbers room b = either-numbers layerNumbers (layerTest room b) (making (undone (filterAt b) b)) (layer-test-numbers room b) tt
+layer-numbers room block =
+    either-numbers layerNumbers (layerTest room block) (making (undone (filterAt block) block))
+    (layer-test-numbers room block) tt
 
-pub encode-numbers : (room format level : ℕ) (follow s : List ℕ) → Among encodeNumbers (encode room format level follow s .answer)
+pub encode-numbers : (room format level : ℕ) (follow source : List ℕ)
+    → Among encodeNumbers (encode room format level follow source .answer)
 unfolding encode
-encode-numbers room format level follow s =
-    either-numbers encodeNumbers (encodeTest room format level follow s) (making (encoded format level follow s)) (encode-test-numbers room format level follow s) tt
+encode-numbers room format level follow source =
+    either-numbers encodeNumbers (encodeTest room format level follow source)
+    (making (encoded format level follow source)) (encode-test-numbers room format level follow source) tt
 
-pub encode-samples-numbers : (room precision : ℕ) (s : List ℕ) → Among samplesNumbers (encodeSamples room precision s .answer)
+pub encode-samples-numbers : (room precision : ℕ) (source : List ℕ)
+    → Among samplesNumbers (encodeSamples room precision source .answer)
 unfolding encodeSamples
-encode-samples-numbers room precision s = either-numbers samplesNumbers (samplesTest room precision s) (making (deltaBytes precision 2 s)) (samples-test-numbers room precision s) tt
+encode-samples-numbers room precision source =
+    either-numbers samplesNumbers (samplesTest room precision source) (making (deltaBytes precision 2 source))
+    (samples-test-numbers room precision source) tt
 
-pub undo-samples-numbers : (room precision : ℕ) (s : List ℕ) → Among samplesNumbers (undoSamples room precision s .answer)
+pub undo-samples-numbers : (room precision : ℕ) (source : List ℕ)
+    → Among samplesNumbers (undoSamples room precision source .answer)
 unfolding undoSamples
-undo-samples-numbers room precision s = either-numbers samplesNumbers (samplesTest room precision s) (making (undeltaBytes precision 2 s)) (samples-test-numbers room precision s) tt
+undo-samples-numbers room precision source =
+    either-numbers samplesNumbers (samplesTest room precision source) (making (undeltaBytes precision 2 source))
+    (samples-test-numbers room precision source) tt
 
 -- 0 is in none of these lists
-pub layer-zero : (room : ℕ) (b : List ℕ) → numberOf (undoLayer room b .answer) ≡ 0 → undoLayer room b .answer ≡ Accepted
+pub layer-zero : (room : ℕ) (block : List ℕ) → numberOf (undoLayer room block .answer) ≡ 0
+    → undoLayer room block .answer ≡ Accepted
 unfolding among
-layer-zero room b e = zero-accepted layerNumbers refl (undoLayer room b .answer) (layer-numbers room b) e
+layer-zero room block e = zero-accepted layerNumbers refl (undoLayer room block .answer) (layer-numbers room block) e
 
-pub encode-zero : (room format level : ℕ) (follow s : List ℕ) → numberOf (encode room format level follow s .answer) ≡ 0 → encode room format level follow s .answer ≡ Accepted
+pub encode-zero : (room format level : ℕ) (follow source : List ℕ)
+    → numberOf (encode room format level follow source .answer) ≡ 0
+    → encode room format level follow source .answer ≡ Accepted
 unfolding among
-encode-zero room format level follow s e = zero-accepted encodeNumbers refl (encode room format level follow s .answer) (encode-numbers room format level follow s) e
+encode-zero room format level follow source e =
+    zero-accepted encodeNumbers refl (encode room format level follow source .answer)
+    (encode-numbers room format level follow source) e
 
-pub encode-samples-zero : (room precision : ℕ) (s : List ℕ) → numberOf (encodeSamples room precision s .answer) ≡ 0 → encodeSamples room precision s .answer ≡ Accepted
+pub encode-samples-zero : (room precision : ℕ) (source : List ℕ)
+    → numberOf (encodeSamples room precision source .answer) ≡ 0
+    → encodeSamples room precision source .answer ≡ Accepted
 unfolding among
-encode-samples-zero room precision s e = zero-accepted samplesNumbers refl (encodeSamples room precision s .answer) (encode-samples-numbers room precision s) e
+encode-samples-zero room precision source e =
+    zero-accepted samplesNumbers refl (encodeSamples room precision source .answer)
+    (encode-samples-numbers room precision source) e
 
-pub undo-samples-zero : (room precision : ℕ) (s : List ℕ) → numberOf (undoSamples room precision s .answer) ≡ 0 → undoSamples room precision s .answer ≡ Accepted
+pub undo-samples-zero : (room precision : ℕ) (source : List ℕ)
+    → numberOf (undoSamples room precision source .answer) ≡ 0 → undoSamples room precision source .answer ≡ Accepted
 unfolding among
-undo-samples-zero room precision s e = zero-accepted samplesNumbers refl (undoSamples room precision s .answer) (undo-samples-numbers room precision s) e
+undo-samples-zero room precision source e =
+    zero-accepted samplesNumbers refl (undoSamples room precision source .answer)
+    (undo-samples-numbers room precision source) e
 
 -- a refusal makes no bytes
 from-none : (left room : ℕ) (b : List ℕ) → (numberOf (undoFrom left room b .answer) ≡ 0 → ⊥) → undoFrom left room b .bytes ≡ []
@@ -111,21 +133,29 @@ from-none (suc left) room b h = go (blockTest (suc left) room b) (isRaw (filterA
     go Accepted false k ih = ih k
     go (Refused n p) t k ih = refl
 
-pub undo-none : (room : ℕ) (b : List ℕ) → (numberOf (undo room b .answer) ≡ 0 → ⊥) → undo room b .bytes ≡ []
-undo-none room b h = from-none mostFilters room b h
+pub undo-none : (room : ℕ) (block : List ℕ) → (numberOf (undo room block .answer) ≡ 0 → ⊥) → undo room block .bytes ≡ []
+undo-none room block h = from-none mostFilters room block h
 
-pub layer-none : (room : ℕ) (b : List ℕ) → (numberOf (undoLayer room b .answer) ≡ 0 → ⊥) → undoLayer room b .bytes ≡ []
+pub layer-none : (room : ℕ) (block : List ℕ) → (numberOf (undoLayer room block .answer) ≡ 0 → ⊥)
+    → undoLayer room block .bytes ≡ []
 unfolding undoLayer
-layer-none room b h = tested-none (layerTest room b) (undone (filterAt b) b) h
+layer-none room block h = tested-none (layerTest room block) (undone (filterAt block) block) h
 
-pub encode-none : (room format level : ℕ) (follow s : List ℕ) → (numberOf (encode room format level follow s .answer) ≡ 0 → ⊥) → encode room format level follow s .bytes ≡ []
+pub encode-none : (room format level : ℕ) (follow source : List ℕ)
+    → (numberOf (encode room format level follow source .answer) ≡ 0 → ⊥)
+    → encode room format level follow source .bytes ≡ []
 unfolding encode
-encode-none room format level follow s h = tested-none (encodeTest room format level follow s) (encoded format level follow s) h
+encode-none room format level follow source h =
+    tested-none (encodeTest room format level follow source) (encoded format level follow source) h
 
-pub encode-samples-none : (room precision : ℕ) (s : List ℕ) → (numberOf (encodeSamples room precision s .answer) ≡ 0 → ⊥) → encodeSamples room precision s .bytes ≡ []
+pub encode-samples-none : (room precision : ℕ) (source : List ℕ)
+    → (numberOf (encodeSamples room precision source .answer) ≡ 0 → ⊥) → encodeSamples room precision source .bytes ≡ []
 unfolding encodeSamples
-encode-samples-none room precision s h = tested-none (samplesTest room precision s) (deltaBytes precision 2 s) h
+encode-samples-none room precision source h =
+    tested-none (samplesTest room precision source) (deltaBytes precision 2 source) h
 
-pub undo-samples-none : (room precision : ℕ) (s : List ℕ) → (numberOf (undoSamples room precision s .answer) ≡ 0 → ⊥) → undoSamples room precision s .bytes ≡ []
+pub undo-samples-none : (room precision : ℕ) (source : List ℕ)
+    → (numberOf (undoSamples room precision source .answer) ≡ 0 → ⊥) → undoSamples room precision source .bytes ≡ []
 unfolding undoSamples
-undo-samples-none room precision s h = tested-none (samplesTest room precision s) (undeltaBytes precision 2 s) h
+undo-samples-none room precision source h =
+    tested-none (samplesTest room precision source) (undeltaBytes precision 2 source) h

@@ -47,25 +47,29 @@ module _ (room precision : ℕ) (s : List ℕ) (ok : samplesTest room precision 
       rw e (both-ok _ _ (first-ok _ _ ok) (both-ok _ _ (first-ok _ _ (second-ok _ _ ok)) (ok-under room' (length s) _ _ fits)))
 
 -- one way and back, over which is which
-module _ (room room' precision : ℕ) (s : List ℕ) (y : Bytes s) (fits : length s ≤ room') where
+module _ (room room' precision : ℕ) (source : List ℕ) (y : Bytes source) (fits : length source ≤ room') where
   there-and-back : (there back : List ℕ → List ℕ)
-      → (0 < precision → length s % precision ≡ 0 → (length (there s) ≡ length s) × (back (there s) ≡ s))
-      → tested (samplesTest room precision s) (there s) .answer ≡ Accepted
-      → tested (samplesTest room' precision (tested (samplesTest room precision s) (there s) .bytes)) (back (tested (samplesTest room precision s) (there s) .bytes)) ≡ making s
+      → (0 < precision → length source % precision ≡ 0 → (length (there source) ≡ length source) × (back (there source) ≡ source))
+      → tested (samplesTest room precision source) (there source) .answer ≡ Accepted
+      → tested (samplesTest room' precision (tested (samplesTest room precision source) (there source) .bytes))
+      (back (tested (samplesTest room precision source) (there source) .bytes))
+      ≡ making source
   there-and-back there back h ok =
-      let test = tested-ok (samplesTest room precision s) (there s) ok in
-      let k = h (samples-width room precision s test .0) (samples-whole room precision s test) in
-      rw (tested-makes (samplesTest room precision s) (there s) test)
-      (tested-makes (samplesTest room' precision (there s)) (back (there s)) (samples-again room precision s test room' (there s) (k .0) fits) ∙ ap making (k .1))
+      let test = tested-ok (samplesTest room precision source) (there source) ok in
+      let k = h (samples-width room precision source test .0) (samples-whole room precision source test) in
+      rw (tested-makes (samplesTest room precision source) (there source) test)
+      (tested-makes (samplesTest room' precision (there source)) (back (there source)) (samples-again room precision source test room' (there source) (k .0) fits) ∙ ap making (k .1))
 
-  pub undo-after-encode-samples : encodeSamples room precision s .answer ≡ Accepted → undoSamples room' precision (encodeSamples room precision s .bytes) ≡ making s
+  pub undo-after-encode-samples : encodeSamples room precision source .answer ≡ Accepted
+      → undoSamples room' precision (encodeSamples room precision source .bytes) ≡ making source
   unfolding encodeSamples undoSamples
   undo-after-encode-samples ok =
       there-and-back (deltaBytes precision 2) (undeltaBytes precision 2)
-      (λ p whole. (length-delta precision p s whole 2, undelta-delta-bytes precision p s whole y 2)) ok
+      (λ p whole. (length-delta precision p source whole 2, undelta-delta-bytes precision p source whole y 2)) ok
 
-  pub encode-after-undo-samples : undoSamples room precision s .answer ≡ Accepted → encodeSamples room' precision (undoSamples room precision s .bytes) ≡ making s
+  pub encode-after-undo-samples : undoSamples room precision source .answer ≡ Accepted
+      → encodeSamples room' precision (undoSamples room precision source .bytes) ≡ making source
   unfolding encodeSamples undoSamples
   encode-after-undo-samples ok =
       there-and-back (undeltaBytes precision 2) (deltaBytes precision 2)
-      (λ p whole. (length-undelta precision p s whole 2, delta-undelta-bytes precision p s whole y 2)) ok
+      (λ p whole. (length-undelta precision p source whole 2, delta-undelta-bytes precision p source whole y 2)) ok

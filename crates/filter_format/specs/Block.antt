@@ -29,21 +29,21 @@ filterOf format =
 
 -- "Byte 0 is the format"
 abbrev pub filterAt : List ℕ → Filter
-filterAt b = filterOf (getD b 0 0)
+filterAt block = filterOf (getD block 0 0)
 
 -- "0: the rest is the data"
 abbrev pub isRaw : Filter → Bool
 isRaw Raw = true
-isRaw (Delta w) = false
-isRaw (Narrow w) = false
+isRaw (Delta width) = false
+isRaw (Narrow width) = false
 isRaw Follow = false
 isRaw Other = false
 
 -- "these six formats"
 abbrev pub isFilter : Filter → Bool
 isFilter Raw = false
-isFilter (Delta w) = true
-isFilter (Narrow w) = true
+isFilter (Delta width) = true
+isFilter (Narrow width) = true
 isFilter Follow = true
 isFilter Other = false
 
@@ -51,32 +51,32 @@ isFilter Other = false
 -- "256 follow bytes"
 unfoldable pub headerLength : Filter → ℕ
 headerLength Raw = 1
-headerLength (Delta w) = cond (eqb w 4) 4 2
-headerLength (Narrow w) = 1
+headerLength (Delta width) = cond (eqb width 4) 4 2
+headerLength (Narrow width) = 1
 headerLength Follow = 257
 headerLength Other = 1
 
 -- the level byte, the follow bytes, the data
 abbrev pub levelAt : List ℕ → ℕ
-levelAt b = getD b 1 0
+levelAt block = getD block 1 0
 
 abbrev pub followAt : List ℕ → List ℕ
-followAt b = part 1 256 b
+followAt block = part 1 256 block
 
 abbrev pub dataAt : Filter → List ℕ → List ℕ
-dataAt f b = drop (headerLength f) b
+dataAt filter block = drop (headerLength filter) block
 
--- the data s of a block, with their filter undone
+-- the data of a block, with their filter undone
 unfoldable pub decoded : Filter → ℕ → List ℕ → List ℕ → List ℕ
-decoded Raw level follow s = s
-decoded (Delta w) level follow s = undeltaBytes w level s
-decoded (Narrow w) level follow s = widen w 0 s
-decoded Follow level follow s = unfollowed follow s
-decoded Other level follow s = []
+decoded Raw level follow source = source
+decoded (Delta width) level follow source = undeltaBytes width level source
+decoded (Narrow width) level follow source = widen width 0 source
+decoded Follow level follow source = unfollowed follow source
+decoded Other level follow source = []
 
 -- "Undoing a filter gives another block"; of format 0 "the rest is the data"
 unfoldable pub undone : Filter → List ℕ → List ℕ
-undone f b = decoded f (levelAt b) (followAt b) (dataAt f b)
+undone filter block = decoded filter (levelAt block) (followAt block) (dataAt filter block)
 
 -- "level byte, 1 to 3 here"
 abbrev pub badLevel : ℕ → Bool
@@ -84,33 +84,34 @@ badLevel level = not (leb 1 level && leb level 3)
 
 -- "42 level or zeros wrong"
 unfoldable pub badHeader : Filter → List ℕ → Bool
-badHeader Raw b = false
-badHeader (Delta w) b = badLevel (levelAt b) || ltb (firstNot isZero 2 (headerLength (Delta w)) b) (headerLength (Delta w))
-badHeader (Narrow w) b = false
-badHeader Follow b = false
-badHeader Other b = false
+badHeader Raw block = false
+badHeader (Delta width) block =
+    badLevel (levelAt block) || ltb (firstNot isZero 2 (headerLength (Delta width)) block) (headerLength (Delta width))
+badHeader (Narrow width) block = false
+badHeader Follow block = false
+badHeader Other block = false
 
 -- "43 data not whole units, or 128 with too few bytes after it"
 unfoldable pub badData : Filter → List ℕ → Bool
-badData Raw s = false
-badData (Delta w) s = notWhole w s
-badData (Narrow w) s = ltb 0 (lacking w 0 s)
-badData Follow s = false
-badData Other s = false
+badData Raw source = false
+badData (Delta width) source = notWhole width source
+badData (Narrow width) source = ltb 0 (lacking width 0 source)
+badData Follow source = false
+badData Other source = false
 
 -- "40 header cut short; 42 level or zeros wrong; 43 data not whole units, or 128 with too few bytes after it; 26 a
 -- result above the room. Place 0"
 unfoldable pub contentsTest : Filter → ℕ → List ℕ → Answer
-contentsTest f room b =
-    when (ltb (length b) (headerLength f)) 40 0
-    then when (badHeader f b) 42 0
-    then when (badData f (dataAt f b)) 43 0
-    then when (ltb room (length (undone f b))) 26 0
+contentsTest filter room block =
+    when (ltb (length block) (headerLength filter)) 40 0
+    then when (badHeader filter block) 42 0
+    then when (badData filter (dataAt filter block)) 43 0
+    then when (ltb room (length (undone filter block))) 26 0
 
 -- what the code asks of a filter, and every format gives: its units have a width
 abbrev pub Known : Filter → Type 0
 Known Raw = Unit {0}
-Known (Delta w) = IsWidth w
-Known (Narrow w) = (IsWidth w) × (2 ≤ w)
+Known (Delta width) = IsWidth width
+Known (Narrow width) = (IsWidth width) × (2 ≤ width)
 Known Follow = Unit {0}
 Known Other = Unit {0}

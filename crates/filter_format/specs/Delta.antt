@@ -6,49 +6,52 @@ use mathlib.Core.List.{List, [], _∷_}
 use Rattle.octets.specs.Numbers.{Below, unitBytes}
 use Rattle.filter_format.specs.Units.{range, unitsOf}
 
--- along xs with p remembered: out p x takes the place of x, and next p x is remembered in the place of p
+-- along the units with the previous one remembered: `out` gives what takes the place of a unit, and `next` what is
+-- remembered in the place of the previous one
 unfoldable pub scan : (ℕ → ℕ → ℕ) → (ℕ → ℕ → ℕ) → ℕ → List ℕ → List ℕ
-scan out next p [] = []
-scan out next p (x ∷ xs) = out p x ∷ scan out next (next p x) xs
+scan out next previous [] = []
+scan out next previous (unit ∷ units) = out previous unit ∷ scan out next (next previous unit) units
 
 -- "less the one before", modulo m; and its inverse
 abbrev pub difference : ℕ → ℕ → ℕ → ℕ
-difference m p x = (x + (m - p)) % m
+difference modulus previous unit = (unit + (modulus - previous)) % modulus
 
 abbrev pub sum : ℕ → ℕ → ℕ → ℕ
-sum m p x = (p + x) % m
+sum modulus previous unit = (previous + unit) % modulus
 
--- x itself is remembered
+-- the unit itself is remembered
 abbrev pub latest : ℕ → ℕ → ℕ
-latest p x = x
+latest previous unit = unit
 
--- "each unit less the one before, modulo the unit's range, the first less 0"; m is the range
+-- "each unit less the one before, modulo the unit's range, the first less 0"; the modulus is the range
 abbrev pub delta : ℕ → List ℕ → List ℕ
-delta m xs = scan (difference m) latest 0 xs
+delta modulus units = scan (difference modulus) latest 0 units
 
 -- the inverse: the sum of each unit and all before it
 abbrev pub undelta : ℕ → List ℕ → List ℕ
-undelta m xs = scan (sum m) (sum m) 0 xs
+undelta modulus units = scan (sum modulus) (sum modulus) 0 units
 
 -- "n times over"
 unfoldable pub deltas : ℕ → ℕ → List ℕ → List ℕ
-deltas m zero xs = xs
-deltas m (suc level) xs = delta m (deltas m level xs)
+deltas modulus zero units = units
+deltas modulus (suc level) units = delta modulus (deltas modulus level units)
 
 -- the inverse, as many times
 unfoldable pub undeltas : ℕ → ℕ → List ℕ → List ℕ
-undeltas m zero xs = xs
-undeltas m (suc level) xs = undeltas m level (undelta m xs)
+undeltas modulus zero units = units
+undeltas modulus (suc level) units = undeltas modulus level (undelta modulus units)
 
--- the same of data in units of w bytes
+-- the same of data in units of `width` bytes
 unfoldable pub deltaBytes : ℕ → ℕ → List ℕ → List ℕ
-deltaBytes w level s = unitBytes w (deltas (range w) level (unitsOf w s))
+deltaBytes width level source = unitBytes width (deltas (range width) level (unitsOf width source))
 
 unfoldable pub undeltaBytes : ℕ → ℕ → List ℕ → List ℕ
-undeltaBytes w level s = unitBytes w (undeltas (range w) level (unitsOf w s))
+undeltaBytes width level source = unitBytes width (undeltas (range width) level (unitsOf width source))
 
 -- document 02 (vi), of each pass of the undo: "it turns the units of some data at one level into those of the same data
 -- at one level less, level 0 being the data"
 abbrev pub OneLevelLess : ℕ → List ℕ → List ℕ → Type 0
-OneLevelLess w before after =
-    (level : ℕ) (xs : List ℕ) → Below (range w) xs → before ≡ unitBytes w (deltas (range w) (suc level) xs) → after ≡ unitBytes w (deltas (range w) level xs)
+OneLevelLess width before after =
+    (level : ℕ) (units : List ℕ) → Below (range width) units
+    → before ≡ unitBytes width (deltas (range width) (suc level) units)
+    → after ≡ unitBytes width (deltas (range width) level units)

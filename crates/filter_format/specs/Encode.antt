@@ -20,61 +20,63 @@ use Rattle.filter_format.specs.Undo.{Result, tested}
 -- the header behind the format byte
 unfoldable pub headerRest : Filter → ℕ → List ℕ → List ℕ
 headerRest Raw level follow = []
-headerRest (Delta w) level follow = level ∷ replicate (headerLength (Delta w) - 2) 0
-headerRest (Narrow w) level follow = []
+headerRest (Delta width) level follow = level ∷ replicate (headerLength (Delta width) - 2) 0
+headerRest (Narrow width) level follow = []
 headerRest Follow level follow = follow
 headerRest Other level follow = []
 
 -- the data, filtered
 unfoldable pub encodedData : Filter → ℕ → List ℕ → List ℕ → List ℕ
-encodedData Raw level follow s = s
-encodedData (Delta w) level follow s = deltaBytes w level s
-encodedData (Narrow w) level follow s = narrow w (unitsOf w s)
-encodedData Follow level follow s = followed follow s
-encodedData Other level follow s = []
+encodedData Raw level follow source = source
+encodedData (Delta width) level follow source = deltaBytes width level source
+encodedData (Narrow width) level follow source = narrow width (unitsOf width source)
+encodedData Follow level follow source = followed follow source
+encodedData Other level follow source = []
 
--- the block that one layer over the data s makes
+-- the block that one layer over the data makes
 unfoldable pub encoded : ℕ → ℕ → List ℕ → List ℕ → List ℕ
-encoded format level follow s = format ∷ (headerRest (filterOf format) level follow ++ encodedData (filterOf format) level follow s)
+encoded format level follow source =
+    format ∷ (headerRest (filterOf format) level follow ++ encodedData (filterOf format) level follow source)
 
 -- "42 (level, or follow bytes not 256 for 72)": the level is judged for 64 to 66 alone, the follow bytes for 72 alone
 unfoldable pub badGiven : Filter → ℕ → List ℕ → Bool
 badGiven Raw level follow = false
-badGiven (Delta w) level follow = badLevel level
-badGiven (Narrow w) level follow = false
+badGiven (Delta width) level follow = badLevel level
+badGiven (Narrow width) level follow = false
 badGiven Follow level follow = not (eqb (length follow) 256)
 badGiven Other level follow = false
 
 -- "43": the data are not whole units
 unfoldable pub badUnits : Filter → List ℕ → Bool
-badUnits Raw s = false
-badUnits (Delta w) s = notWhole w s
-badUnits (Narrow w) s = notWhole w s
-badUnits Follow s = false
-badUnits Other s = false
+badUnits Raw source = false
+badUnits (Delta width) source = notWhole width source
+badUnits (Narrow width) source = notWhole width source
+badUnits Follow source = false
+badUnits Other source = false
 
 -- "Encoding one layer refuses 41 (format not 64 to 66 or 70 to 72), 42 (level, or follow bytes not 256 for 72), 43, 26
 -- in that order"
 unfoldable pub encodeTest : ℕ → ℕ → ℕ → List ℕ → List ℕ → Answer
-encodeTest room format level follow s =
+encodeTest room format level follow source =
     when (not (isFilter (filterOf format))) 41 0
     then when (badGiven (filterOf format) level follow) 42 0
-    then when (badUnits (filterOf format) s) 43 0
-    then when (ltb room (length (encoded format level follow s))) 26 0
+    then when (badUnits (filterOf format) source) 43 0
+    then when (ltb room (length (encoded format level follow source))) 26 0
 
 -- that block, or its refusal
 unfoldable pub encode : ℕ → ℕ → ℕ → List ℕ → List ℕ → Result
-encode room format level follow s = tested (encodeTest room format level follow s) (encoded format level follow s)
+encode room format level follow source =
+    tested (encodeTest room format level follow source) (encoded format level follow source)
 
 -- the lent buffer afterwards: "changing nothing; success writes the block only"
 abbrev pub outAfter : Result → List ℕ → List ℕ
 outAfter result out = putAt 0 (result .bytes) out
 
 -- "Encode after undo returns the block for 64, 65, 66, 72 (same level and follow bytes); not for 70, 71": what it asks
--- for a block b of that filter
+-- for a block of that filter
 abbrev pub SameFor : Filter → List ℕ → ℕ → List ℕ → Type 0
-SameFor Raw b level follow = ⊥
-SameFor (Delta w) b level follow = level ≡ levelAt b
-SameFor (Narrow w) b level follow = ⊥
-SameFor Follow b level follow = follow ≡ followAt b
-SameFor Other b level follow = ⊥
+SameFor Raw block level follow = ⊥
+SameFor (Delta width) block level follow = level ≡ levelAt block
+SameFor (Narrow width) block level follow = ⊥
+SameFor Follow block level follow = follow ≡ followAt block
+SameFor Other block level follow = ⊥

@@ -5,16 +5,16 @@ use mathlib.Core.List.{List, [], _∷_}
 use lib.ListN.{getD}
 use Rattle.filter_format.specs.Delta.{scan, latest}
 
--- "follow[previous byte] less the byte, modulo 256": p is the previous byte
+-- "follow[previous byte] less the byte, modulo 256"
 abbrev pub predicted : List ℕ → ℕ → ℕ → ℕ
-predicted follow p x = (getD follow p 0 + (256 - x)) % 256
+predicted follow previous byte = (getD follow previous 0 + (256 - byte)) % 256
 
 -- "first data byte as is, then .."
 unfoldable pub followed : List ℕ → List ℕ → List ℕ
 followed follow [] = []
-followed follow (x ∷ xs) = x ∷ scan (predicted follow) latest x xs
+followed follow (byte ∷ bytes) = byte ∷ scan (predicted follow) latest byte bytes
 
 -- the inverse: the previous byte is the data's, not the stored one
 unfoldable pub unfollowed : List ℕ → List ℕ → List ℕ
 unfollowed follow [] = []
-unfollowed follow (x ∷ xs) = x ∷ scan (predicted follow) (predicted follow) x xs
+unfollowed follow (byte ∷ bytes) = byte ∷ scan (predicted follow) (predicted follow) byte bytes

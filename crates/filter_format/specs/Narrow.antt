@@ -9,29 +9,31 @@ use Rattle.filter_format.specs.Units.{range}
 
 -- -127 as a unit, in two's complement
 abbrev pub least : ℕ → ℕ
-least w = range w - 127
+least width = range width - 127
 
 -- "-127 to 127 as one byte, else byte 128 and the unit whole": 0 to 127, and the units from `least` on, are -127 to 127
 unfoldable pub narrowUnit : ℕ → ℕ → List ℕ
-narrowUnit w u = cond (leb u 127) (u ∷ []) (cond (leb (least w) u) (u % 256 ∷ []) (128 ∷ bytesOf w u))
+narrowUnit width unit =
+    cond (leb unit 127) (unit ∷ []) (cond (leb (least width) unit) (unit % 256 ∷ []) (128 ∷ bytesOf width unit))
 
 -- the units one after another
 unfoldable pub narrow : ℕ → List ℕ → List ℕ
-narrow w [] = []
-narrow w (u ∷ us) = narrowUnit w u ++ narrow w us
+narrow width [] = []
+narrow width (unit ∷ units) = narrowUnit width unit ++ narrow width units
 
--- the unit of the byte c, which is not 128, with its sign
+-- the unit of a byte, which is not 128, with its sign
 unfoldable pub extended : ℕ → ℕ → ℕ
-extended w c = cond (ltb c 128) c (range w - 256 + c)
+extended width byte = cond (ltb byte 128) byte (range width - 256 + byte)
 
 -- the inverse: the bytes of the units, where `due` bytes of a whole unit are still to come
 unfoldable pub widen : ℕ → ℕ → List ℕ → List ℕ
-widen w due [] = []
-widen w zero (c ∷ s) = cond (eqb c 128) [] (bytesOf w (extended w c)) ++ widen w (cond (eqb c 128) w 0) s
-widen w (suc due) (c ∷ s) = c ∷ widen w due s
+widen width due [] = []
+widen width zero (byte ∷ rest) =
+    cond (eqb byte 128) [] (bytesOf width (extended width byte)) ++ widen width (cond (eqb byte 128) width 0) rest
+widen width (suc due) (byte ∷ rest) = byte ∷ widen width due rest
 
 -- "128 with too few bytes after it": how many bytes of a whole unit are lacking at the end of the same walk
 unfoldable pub lacking : ℕ → ℕ → List ℕ → ℕ
-lacking w due [] = due
-lacking w zero (c ∷ s) = lacking w (cond (eqb c 128) w 0) s
-lacking w (suc due) (c ∷ s) = lacking w due s
+lacking width due [] = due
+lacking width zero (byte ∷ rest) = lacking width (cond (eqb byte 128) width 0) rest
+lacking width (suc due) (byte ∷ rest) = lacking width due rest

@@ -13,14 +13,14 @@ use Rattle.filter_format.specs.Undo.{Result, tested}
 -- "either way refuses 42 (precision), 43, 26 in that order, changing nothing, and else writes as many bytes as it
 -- reads"
 unfoldable pub samplesTest : ℕ → ℕ → List ℕ → Answer
-samplesTest room precision s =
+samplesTest room precision source =
     when (not (eqb precision 1 || eqb precision 2)) 42 0
-    then when (notWhole precision s) 43 0
-    then when (ltb room (length s)) 26 0
+    then when (notWhole precision source) 43 0
+    then when (ltb room (length source)) 26 0
 
 -- encoded, and undone
 unfoldable pub encodeSamples : ℕ → ℕ → List ℕ → Result
-encodeSamples room precision s = tested (samplesTest room precision s) (deltaBytes precision 2 s)
+encodeSamples room precision source = tested (samplesTest room precision source) (deltaBytes precision 2 source)
 
 unfoldable pub undoSamples : ℕ → ℕ → List ℕ → Result
-undoSamples room precision s = tested (samplesTest room precision s) (undeltaBytes precision 2 s)
+undoSamples room precision source = tested (samplesTest room precision source) (undeltaBytes precision 2 source)

@@ -34,20 +34,21 @@ roomOf first second = min (length first) (length second)
 -- "Order per layer: 40 empty block; 41 other format; 44 a ninth filter;" then the tests of the contents. `left` filters
 -- may still be opened
 unfoldable pub blockTest : ℕ → ℕ → List ℕ → Answer
-blockTest left room b =
-    when (eqb (length b) 0) 40 0
-    then when (not (isRaw (filterAt b)) && not (isFilter (filterAt b))) 41 0
-    then when (isFilter (filterAt b) && eqb left 0) 44 0
-    then contentsTest (filterAt b) room b
+blockTest left room block =
+    when (eqb (length block) 0) 40 0
+    then when (not (isRaw (filterAt block)) && not (isFilter (filterAt block))) 41 0
+    then when (isFilter (filterAt block) && eqb left 0) 44 0
+    then contentsTest (filterAt block) room block
 
 -- "Undoing a filter gives another block, until format 0. An opened layer hands its block to the choice of format, which
 -- opens the next layer"
 unfoldable pub undoFrom : ℕ → ℕ → List ℕ → Result
-undoFrom zero room b = tested (blockTest 0 room b) (undone (filterAt b) b)
-undoFrom (suc left) room b =
-    acceptedOr (blockTest (suc left) room b)
-    (cond (isRaw (filterAt b)) (making (undone (filterAt b) b)) (undoFrom left room (undone (filterAt b) b)))
-    (refusing (blockTest (suc left) room b))
+undoFrom zero room block = tested (blockTest 0 room block) (undone (filterAt block) block)
+undoFrom (suc left) room block =
+    acceptedOr (blockTest (suc left) room block)
+    (cond (isRaw (filterAt block)) (making (undone (filterAt block) block))
+    (undoFrom left room (undone (filterAt block) block)))
+    (refusing (blockTest (suc left) room block))
 
 -- "eight at most"
 abbrev pub mostFilters : ℕ
@@ -55,7 +56,7 @@ mostFilters = 8
 
 -- a whole block, undone until format 0
 abbrev pub undo : ℕ → List ℕ → Result
-undo room b = undoFrom mostFilters room b
+undo room block = undoFrom mostFilters room block
 
 -- what a call answers: "a filter the number of bytes it made (refused: 0)"
 abbrev pub filtered : Result → Filtered
@@ -71,10 +72,10 @@ secondAfter second = filled (length second) []
 
 -- "One layer of these six formats (any other is 41) can be undone alone, with the same refusals and buffers"
 unfoldable pub layerTest : ℕ → List ℕ → Answer
-layerTest room b =
-    when (eqb (length b) 0) 40 0
-    then when (not (isFilter (filterAt b))) 41 0
-    then contentsTest (filterAt b) room b
+layerTest room block =
+    when (eqb (length block) 0) 40 0
+    then when (not (isFilter (filterAt block))) 41 0
+    then contentsTest (filterAt block) room block
 
 unfoldable pub undoLayer : ℕ → List ℕ → Result
-undoLayer room b = tested (layerTest room b) (undone (filterAt b) b)
+undoLayer room block = tested (layerTest room block) (undone (filterAt block) block)

@@ -1,4 +1,4 @@
--- Data in units of w bytes, big endian. Assumes nothing: these are definitions.
+-- Data in units of `width` bytes, big endian. Assumes nothing: these are definitions.
 use Prim.Native.Nat.{ℕ, _/_, _%_, _^_, _<_, _≤_}
 use mathlib.Core.Bool.{Bool, not}
 use mathlib.Core.List.{List}
@@ -9,16 +9,16 @@ use Rattle.octets.specs.Numbers.{unitsAt}
 
 -- "units of 1, 2, 4 bytes": what a function that takes a width asks of it
 abbrev pub IsWidth : ℕ → Type 0
-IsWidth w = (0 < w) × (w ≤ 4) × (w ≢ 3)
+IsWidth width = (0 < width) × (width ≤ 4) × (width ≢ 3)
 
--- "the unit's range": a unit of w bytes has so many values
+-- "the unit's range": a unit of `width` bytes has so many values
 abbrev pub range : ℕ → ℕ
-range w = 256 ^ w
+range width = 256 ^ width
 
--- the units of the data s
+-- the units of the data
 abbrev pub unitsOf : ℕ → List ℕ → List ℕ
-unitsOf w s = unitsAt w (length s / w) 0 s
+unitsOf width source = unitsAt width (length source / width) 0 source
 
 -- "data not whole units"
 abbrev pub notWhole : ℕ → List ℕ → Bool
-notWhole w s = not (eqb (length s % w) 0)
+notWhole width source = not (eqb (length source % width) 0)

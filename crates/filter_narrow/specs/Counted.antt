@@ -10,14 +10,14 @@ use Rattle.filter_narrow.specs.declared.Counted.the-variants.{Units, Lac
 
 -- how many units begin, where `due` bytes of a whole unit are still to come: the walk of `lacking`
 unfoldable pub begun : ℕ → ℕ → List ℕ → ℕ
-begun w due [] = 0
-begun w zero (c ∷ s) = suc (begun w (cond (eqb c 128) w 0) s)
-begun w (suc due) (c ∷ s) = begun w due s
+begun width due [] = 0
+begun width zero (byte ∷ rest) = suc (begun width (cond (eqb byte 128) width 0) rest)
+begun width (suc due) (byte ∷ rest) = begun width due rest
 
 -- how many units the data hold, or that the last is cut short
 unfoldable pub counted : ℕ → List ℕ → Counted
-counted w s = cond (ltb 0 (lacking w 0 s)) Lacking (Units (begun w 0 s))
+counted width source = cond (ltb 0 (lacking width 0 source)) Lacking (Units (begun width 0 source))
 
 -- "-127 to 127", in two's complement
 abbrev pub fitsOne : ℕ → ℕ → Bool
-fitsOne w u = leb u 127 || leb (least w) u
+fitsOne width unit = leb unit 127 || leb (least width) unit

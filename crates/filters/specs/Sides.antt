@@ -7,5 +7,5 @@ use Rattle.filter_format.specs.Undo.{Result, firstAfter, secondAfter}
 
 -- what a buffer holds afterwards, by whether it is the caller's first
 abbrev pub after : Bool → Result → List ℕ → List ℕ
-after true result s = firstAfter result s
-after false result s = secondAfter s
+after true result buffer = firstAfter result buffer
+after false result buffer = secondAfter buffer

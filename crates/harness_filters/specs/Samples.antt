@@ -8,4 +8,5 @@ use Rattle.filter_format.specs.Undo.{Result}
 use Rattle.filter_format.specs.Samples.{encodeSamples, undoSamples}
 
 unfoldable pub samples : ℕ → ℕ → ℕ → List ℕ → Result
-samples undone room precision s = cond (eqb undone 0) (encodeSamples room precision s) (undoSamples room precision s)
+samples undone room precision source =
+    cond (eqb undone 0) (encodeSamples room precision source) (undoSamples room precision source)

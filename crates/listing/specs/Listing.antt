@@ -16,25 +16,29 @@ use Rattle.lines.specs.Lines.{headerLine, readLine, refusalLine, tooLong}
 
 -- "A read's line is position, name, N, first, last, insert"
 abbrev pub lineOf : ℕ → Read → List ℕ
-lineOf position r = readLine position (r .name) (length (r .bases)) (insertFirst r) (insertLast r) (insertOf r (r .bases))
+lineOf position read =
+    readLine position (read .name) (length (read .bases)) (insertFirst read) (insertLast read)
+    (insertOf read (read .bases))
 
 -- the lines of reads from a position on
 unfoldable pub linesFrom : ℕ → List Read → List ℕ
 linesFrom position [] = []
-linesFrom position (r ∷ rs) = lineOf position r ++ linesFrom (suc position) rs
+linesFrom position (read ∷ reads) = lineOf position read ++ linesFrom (suc position) reads
 
 -- as "flows 4 key T reads 1", then the lines of the reads
 unfoldable pub fileLines : File → List ℕ
-fileLines f = headerLine (length (f .flow-characters)) (f .key) (length (f .reads)) ++ linesFrom 0 (f .reads)
+fileLines content =
+    headerLine (length (content .flow-characters)) (content .key) (length (content .reads))
+    ++ linesFrom 0 (content .reads)
 
 -- "A refusal is one line and nothing else"
 unfoldable pub listed : Answer → List ℕ → List ℕ
-listed Accepted b = fileLines (parse b)
-listed (Refused n p) b = refusalLine n p
+listed Accepted file = fileLines (parse file)
+listed (Refused number place) file = refusalLine number place
 
 -- of any bytes
 unfoldable pub listing : List ℕ → List ℕ
-listing b = listed (fileTest b) b
+listing file = listed (fileTest file) file
 
 -- room for the listing of any n bytes
 abbrev pub enough : ℕ → ℕ
@@ -42,8 +46,10 @@ enough n = 7 * n + 64
 
 -- "longer input than 65,536 bytes prints `too long`"
 unfoldable pub printed : List ℕ → List ℕ
-printed b = cond (ltb 65536 (length b)) tooLong (listing b)
+printed file = cond (ltb 65536 (length file)) tooLong (listing file)
 
--- what the code puts for a read: its line, from its places in the file b
+-- what the code puts for a read: its line, from its places in the file
 unfoldable pub viewLine : List ℕ → ℕ → ReadView → List ℕ
-viewLine b position v = readLine position (bytesIn b (v .name)) (v .bases .size) (viewFirst v) (viewLast v) (insertIn v (bytesIn b (v .bases)))
+viewLine file position view =
+    readLine position (bytesIn file (view .name)) (view .bases .size) (viewFirst view) (viewLast view)
+    (insertIn view (bytesIn file (view .bases)))

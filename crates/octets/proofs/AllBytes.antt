@@ -27,10 +27,10 @@ pub bytes-right : (xs ys : List ℕ) → Bytes (xs ++ ys) → Bytes ys
 bytes-right [] ys a = a
 bytes-right (x ∷ xs) ys a = bytes-right xs ys (a .1)
 
-pub bytes-take : (n : ℕ) (l : List ℕ) → Bytes l → Bytes (take n l)
-bytes-take zero l a = tt
+pub bytes-take : (n : ℕ) (list : List ℕ) → Bytes list → Bytes (take n list)
+bytes-take zero list a = tt
 bytes-take (suc n) [] a = tt
-bytes-take (suc n) (x ∷ l) a = (a .0, bytes-take n l (a .1))
+bytes-take (suc n) (x ∷ list) a = (a .0, bytes-take n list (a .1))
 
 pub bytes-drop : (n : ℕ) (l : List ℕ) → Bytes l → Bytes (drop n l)
 bytes-drop zero l a = a
@@ -70,5 +70,5 @@ bytes-every t small (x ∷ xs) e = go (t x) refl (bytes-every t small xs)
     go true h more = let a : suc (run t xs) ≡ suc (length xs) = rw h at e in (small x h, more (omega arith))
     go false h more = let a : 0 ≡ suc (length xs) = rw h at e in absurd (omega arith)
 
-pub bytes-part : (at n : ℕ) (l : List ℕ) → Bytes l → Bytes (part at n l)
-bytes-part at n l a = bytes-take n (drop at l) (bytes-drop at l a)
+pub bytes-part : (at n : ℕ) (list : List ℕ) → Bytes list → Bytes (part at n list)
+bytes-part at n list a = bytes-take n (drop at list) (bytes-drop at list a)

@@ -23,9 +23,9 @@ pub getD-part : (at n : ℕ) (l : List ℕ) (i : ℕ) → i < n → getD (part a
 getD-part at n l i h = rw (getD-take, getD-drop)
 
 -- no element is put
-pub put-nil : (at : ℕ) (l : List ℕ) → putAt at [] l ≡ l
+pub put-nil : (at : ℕ) (list : List ℕ) → putAt at [] list ≡ list
 unfolding putAt
-put-nil at l = rw (add-zero, append-nil, take-append-drop)
+put-nil at list = rw (add-zero, append-nil, take-append-drop)
 
 pub length-put : (at : ℕ) (xs l : List ℕ) → at + length xs ≤ length l → length (putAt at xs l) ≡ length l
 unfolding putAt

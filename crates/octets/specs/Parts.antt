@@ -5,21 +5,21 @@ use mathlib.Core.List.{List, [], _∷_, _++_}
 use lib.ListN.{length, take, drop, replicate}
 use lib.Dec.{eqb, leb}
 
--- the n bytes of l from place `at` on
+-- the n bytes of the list from place `at` on
 abbrev pub part : ℕ → ℕ → List ℕ → List ℕ
-part at n l = take n (drop at l)
+part at n list = take n (drop at list)
 
--- the same if they all lie in l, and else none
+-- the same if they all lie in the list, and else none
 unfoldable pub wholePart : ℕ → ℕ → List ℕ → List ℕ
-wholePart at n l = cond (leb (at + n) (length l)) (part at n l) []
+wholePart at n list = cond (leb (at + n) (length list)) (part at n list) []
 
--- l with xs in the place of as many of its bytes from place `at` on
+-- the list with xs in the place of as many of its bytes from place `at` on
 unfoldable pub putAt : ℕ → List ℕ → List ℕ → List ℕ
-putAt at xs l = take at l ++ xs ++ drop (at + length xs) l
+putAt at xs list = take at list ++ xs ++ drop (at + length xs) list
 
--- l with xs standing at place `at`, what stood there and after it moved up
+-- the list with xs standing at place `at`, what stood there and after it moved up
 unfoldable pub insertAt : ℕ → List ℕ → List ℕ → List ℕ
-insertAt at xs l = take at l ++ xs ++ drop at l
+insertAt at xs list = take at list ++ xs ++ drop at list
 
 -- document 01's "Up8": "the next multiple of 8, or the number itself"
 abbrev pub up8 : ℕ → ℕ
@@ -33,9 +33,9 @@ filled n xs = xs ++ replicate (n - length xs) 0
 abbrev pub padded : List ℕ → List ℕ
 padded xs = filled (up8 (length xs)) xs
 
--- a buffer with the file `new` at its front, zeros up to place m, and from there on as it was
+-- a buffer with the file `new` at its front, zeros up to place `end`, and from there on as it was
 unfoldable pub settled : List ℕ → ℕ → List ℕ → List ℕ
-settled new m buffer = filled m new ++ drop m buffer
+settled new end buffer = filled end new ++ drop end buffer
 
 -- a buffer whose first `end` bytes are a file, with xs in the place of the file's n bytes from place `at` on: what
 -- follows them is moved, and what is freed is zero

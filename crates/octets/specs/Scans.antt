@@ -30,18 +30,18 @@ fails test xs = ltb (run test xs) (length xs)
 -- the first place from `from` on, before `to`, whose byte fails the test, or `to`: "Within one test the lowest place is
 -- named"
 unfoldable pub firstNot : (ℕ → Bool) → ℕ → ℕ → List ℕ → ℕ
-firstNot test from to l = from + run test (part from (to - from) l)
+firstNot test from to list = from + run test (part from (to - from) list)
 
 -- "flow and key characters are A, C, G, T"
 abbrev pub isFlowCharacter : ℕ → Bool
-isFlowCharacter x = (eqb x 65 || eqb x 67) || (eqb x 71 || eqb x 84)
+isFlowCharacter byte = (eqb byte 65 || eqb byte 67) || (eqb byte 71 || eqb byte 84)
 
 -- "Name bytes are 33 to 126"
 abbrev pub isNameByte : ℕ → Bool
-isNameByte x = leb 33 x && leb x 126
+isNameByte byte = leb 33 byte && leb byte 126
 
 abbrev pub isZero : ℕ → Bool
-isZero x = eqb x 0
+isZero byte = eqb byte 0
 
 -- the test that a case of the code's enum stands for
 abbrev pub passes : ByteTest → ℕ → Bool

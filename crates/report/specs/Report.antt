@@ -11,17 +11,18 @@ use Rattle.lines.specs.Lines.{refusalLine, answerLine}
 
 -- "The answer has their count and the number, place and length of the last record tried"
 abbrev pub answered : ListOutcome → List ℕ
-answered o = answerLine (o .count) (numberOf (o .answer)) (placeOf (o .answer)) (o .length)
+answered outcome =
+    answerLine (outcome .count) (numberOf (outcome .answer)) (placeOf (outcome .answer)) (outcome .length)
 
 -- a refusal's line, as the lister prints it
 unfoldable pub refusal : Answer → List ℕ
 refusal Accepted = []
-refusal (Refused n p) = refusalLine n p
+refusal (Refused number place) = refusalLine number place
 
 -- the answer, then the refusal if there is one
 unfoldable pub reported : ListOutcome → List ℕ
-reported o = answered o ++ refusal (o .answer)
+reported outcome = answered outcome ++ refusal (outcome .answer)
 
 -- a new file is written where the list, or some of its records, were carried out
 unfoldable pub isWritten : ListOutcome → Bool
-isWritten o = acceptedOr (o .answer) true (ltb 0 (o .count))
+isWritten outcome = acceptedOr (outcome .answer) true (ltb 0 (outcome .count))

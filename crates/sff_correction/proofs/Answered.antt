@@ -29,59 +29,67 @@ use Rattle.sff_correction.proofs.InOrder.{correct-judged, correct-numbe
 use Rattle.sff_correction.proofs.EditedBytes.{sections-kept}
 use Rattle.sff_correction.proofs.Carried.{test-file, test-record, test-reasons, refused-outcome, refused-buffer, done-outcome, done-buffer, done-valid, done-front}
 
-module _ (buffer : List ℕ) (len : ℕ) (r : List ℕ) where
+module _ (buffer : List ℕ) (len : ℕ) («record» : List ℕ) where
   -- the answer is that of the tests in order
-  answer-is : correctOutcome buffer len r .answer ≡ correctTest buffer len r
+  answer-is : correctOutcome buffer len «record» .answer ≡ correctTest buffer len «record»
   unfolding correctOutcome
   answer-is = refl
 
-  pub outcome-numbers : Among correctNumbers (correctOutcome buffer len r .answer)
-  outcome-numbers = rw answer-is (correct-numbers buffer len r)
+  pub outcome-numbers : Among correctNumbers (correctOutcome buffer len «record» .answer)
+  outcome-numbers = rw answer-is (correct-numbers buffer len «record»)
 
-  pub outcome-zero : numberOf (correctOutcome buffer len r .answer) ≡ 0 → correctTest buffer len r ≡ Accepted
-  outcome-zero e = correct-zero buffer len r (ap numberOf (sym answer-is) ∙ e)
+  pub outcome-zero : numberOf (correctOutcome buffer len «record» .answer) ≡ 0
+      → correctTest buffer len «record» ≡ Accepted
+  outcome-zero e = correct-zero buffer len «record» (ap numberOf (sym answer-is) ∙ e)
 
-  pub refused-left : (numberOf (correctOutcome buffer len r .answer) ≡ 0 → ⊥) → (correctOutcome buffer len r .length ≡ len) × (correctBuffer buffer len r ≡ buffer)
-  refused-left h = go (correctTest buffer len r) refl
+  pub refused-left : (numberOf (correctOutcome buffer len «record» .answer) ≡ 0 → ⊥)
+      → (correctOutcome buffer len «record» .length ≡ len) × (correctBuffer buffer len «record» ≡ buffer)
+  refused-left h = go (correctTest buffer len «record») refl
     where
-      go : (a : Answer) → correctTest buffer len r ≡ a → (correctOutcome buffer len r .length ≡ len) × (correctBuffer buffer len r ≡ buffer)
+      go : (a : Answer) → correctTest buffer len «record» ≡ a
+          → (correctOutcome buffer len «record» .length ≡ len) × (correctBuffer buffer len «record» ≡ buffer)
       go Accepted e = absurd (h (ap numberOf (answer-is ∙ e)))
-      go (Refused n p) e = (rw (refused-outcome buffer len r e), refused-buffer buffer len r e)
+      go (Refused n p) e = (rw (refused-outcome buffer len «record» e), refused-buffer buffer len «record» e)
 
-  module _ (y : Bytes buffer) (z : Bytes r) where
-    pub first-answered : FirstHolds (reasonsAgainst buffer len r) (correctOutcome buffer len r .answer)
-    first-answered = rw answer-is (correct-judged buffer len r y z .first)
+  module _ (y : Bytes buffer) (z : Bytes «record») where
+    pub first-answered : FirstHolds (reasonsAgainst buffer len «record») (correctOutcome buffer len «record» .answer)
+    first-answered = rw answer-is (correct-judged buffer len «record» y z .first)
 
-    pub carried-exactly : (numberOf (correctOutcome buffer len r .answer) ≡ 0) ↔ NoneHolds (reasonsAgainst buffer len r)
+    pub carried-exactly : (numberOf (correctOutcome buffer len «record» .answer) ≡ 0)
+        ↔ NoneHolds (reasonsAgainst buffer len «record»)
     carried-exactly = (
-      (λ e. correct-judged buffer len r y z .none (outcome-zero e)),
-      (λ n. ap numberOf (none-accepted (reasonsAgainst buffer len r) (correctOutcome buffer len r .answer) first-answered n)),
+      (λ e. correct-judged buffer len «record» y z .none (outcome-zero e)),
+      (λ n. ap numberOf (none-accepted (reasonsAgainst buffer len «record») (correctOutcome buffer len «record» .answer) first-answered n)),
     )
 
-    module _ (e : numberOf (correctOutcome buffer len r .answer) ≡ 0) where
-      pub carried-left : (correctOutcome buffer len r .length ≡ length (corrected buffer len r)) × (correctBuffer buffer len r ≡ over (corrected buffer len r) len buffer)
-      carried-left = (rw (done-outcome buffer len r (outcome-zero e)), done-buffer buffer len r (outcome-zero e))
+    module _ (e : numberOf (correctOutcome buffer len «record» .answer) ≡ 0) where
+      pub carried-left : (correctOutcome buffer len «record» .length ≡ length (corrected buffer len «record»))
+          × (correctBuffer buffer len «record» ≡ over (corrected buffer len «record») len buffer)
+      carried-left =
+          (rw (done-outcome buffer len «record» (outcome-zero e)), done-buffer buffer len «record» (outcome-zero e))
 
-      pub carried-valid : Valid (edited (parseRecord r) (parse (take len buffer)))
-      carried-valid = done-valid buffer len r (outcome-zero e) (bytes-take len buffer y) z
+      pub carried-valid : Valid (edited (parseRecord «record») (parse (take len buffer)))
+      carried-valid = done-valid buffer len «record» (outcome-zero e) (bytes-take len buffer y) z
 
       -- what stands before that read and after it keeps every byte but the count at 20
-      pub carried-kept : take (correctOutcome buffer len r .length) (correctBuffer buffer len r)
-          ≡ putAt 20 (bytesOf 4 (length (edited (parseRecord r) (parse (take len buffer)) .reads)))
+      pub carried-kept : take (correctOutcome buffer len «record» .length) (correctBuffer buffer len «record»)
+          ≡ putAt 20 (bytesOf 4 (length (edited (parseRecord «record») (parse (take len buffer)) .reads)))
           (
-          take (readPlace (take len buffer) (position r)) (take len buffer)
-          ++ (layoutReads (instead (changeIn r) (target (parseRecord r) (parse (take len buffer)))) ++ drop (readPlace (take len buffer) (position r) + length (layoutRead (target (parseRecord r) (parse (take len buffer))))) (take len buffer))
+          take (readPlace (take len buffer) (position «record»)) (take len buffer)
+          ++ (layoutReads (instead (changeIn «record») (target (parseRecord «record») (parse (take len buffer)))) ++ drop (readPlace (take len buffer) (position «record») + length (layoutRead (target (parseRecord «record») (parse (take len buffer))))) (take len buffer))
           )
       carried-kept =
           let t = outcome-zero e in
-          rw (done-outcome buffer len r t, done-buffer buffer len r t, done-front buffer len r t)
-          (sections-kept (length buffer) (parseRecord r) (take len buffer) (bytes-take len buffer y) (test-file buffer len r t) (parsed-valid r z (test-record buffer len r t)) (test-reasons buffer len r t))
+          rw (done-outcome buffer len «record» t, done-buffer buffer len «record» t, done-front buffer len «record» t)
+          (sections-kept (length buffer) (parseRecord «record») (take len buffer) (bytes-take len buffer y) (test-file buffer len «record» t) (parsed-valid «record» z (test-record buffer len «record» t)) (test-reasons buffer len «record» t))
 
       -- the writers leave the same bytes
-      pub corrected-written : parse (take len buffer) .index ≡ noIndex → (other : List ℕ) → length (corrected buffer len r) ≤ length other
-          → writeEach other (edited (parseRecord r) (parse (take len buffer)))
-          ≡ record { outcome = correctOutcome buffer len r; buffer = putAt 0 (take (correctOutcome buffer len r .length) (correctBuffer buffer len r)) other }
+      pub corrected-written : parse (take len buffer) .index ≡ noIndex → (other : List ℕ)
+          → length (corrected buffer len «record») ≤ length other
+          → writeEach other (edited (parseRecord «record») (parse (take len buffer)))
+          ≡ record { outcome = correctOutcome buffer len «record»; buffer = putAt 0 (take (correctOutcome buffer len «record» .length) (correctBuffer buffer len «record»)) other }
       unfolding edited
       corrected-written i other h =
           let t = outcome-zero e in
-          write-each (edited (parseRecord r) (parse (take len buffer))) i carried-valid other h ∙ rw (done-outcome buffer len r t, done-buffer buffer len r t, done-front buffer len r t)
+          write-each (edited (parseRecord «record») (parse (take len buffer))) i carried-valid other h
+          ∙ rw (done-outcome buffer len «record» t, done-buffer buffer len «record» t, done-front buffer len «record» t)

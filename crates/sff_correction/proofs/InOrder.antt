@@ -180,27 +180,28 @@ name-borne (rename name) i f h =
 name-borne remove i f h = ((λ e. true≢false (sym e)), (λ k. absurd k))
 
 -- The two tables agree row by row.
-module _ (room : ℕ) (c : Correction) (f : File) where
-  present : (hasTarget c f ≡ true) ↔ Present c f
-  present = (ltb-true (c .position) (length (f .reads)), lt-ltb (c .position) (length (f .reads)))
+module _ (room : ℕ) (correction : Correction) (content : File) where
+  present : (hasTarget correction content ≡ true) ↔ Present correction content
+  present = (ltb-true (correction .position) (length (content .reads)), lt-ltb (correction .position) (length (content .reads)))
 
-  pub rows-agree : RowByRow (reasonRows room c f) (ownReasons room c f)
+  pub rows-agree : RowByRow (reasonRows room correction content) (ownReasons room correction content)
   unfolding positionAbove otherName indexPresent clipAbove nameBorne noRoom
   rows-agree =
-      let new = length (layout (edited c f)) in (
-        ((λ e. ltb-false (c .position) (length (f .reads)) (not-true _ e)), (λ h. ap not (le-ltb (c .position) (length (f .reads)) h))),
+      let new = length (layout (edited correction content)) in (
+        ((λ e. ltb-false (correction .position) (length (content .reads)) (not-true _ e)), (λ h. ap not (le-ltb (correction .position) (length (content .reads)) h))),
         refl,
         (
-          both _ _ _ _ present (λ e. names-differ (c .old-name) (target c f .name)),
+          both _ _ _ _ present (λ e. names-differ (correction .old-name) (target correction content .name)),
           refl,
           (
-            both _ _ _ _ (other-kind (c .change)) (λ e. has-index f),
+            both _ _ _ _ (other-kind (correction .change)) (λ e. has-index content),
             refl,
             (
-              both _ _ _ _ present (λ e. clip-above (length (target c f .bases)) (c .change)),
+              both _ _ _ _ present (λ e. clip-above (length (target correction content .bases)) (correction .change)),
               refl,
               (
-                both _ _ _ _ present (λ e. name-borne (c .change) (c .position) f (present .0 e)),
+                both _ _ _ _ present
+                    (λ e. name-borne (correction .change) (correction .position) content (present .0 e)),
                 refl,
                 (both _ _ _ _ present (λ e. (ltb-true room new, lt-ltb room new)), refl, tt),
               ),
@@ -209,13 +210,13 @@ module _ (room : ℕ) (c : Correction) (f : File) where
         ),
       )
 
-  pub reasons-judged : Judged (ownReasons room c f) (reasons room c f)
+  pub reasons-judged : Judged (ownReasons room correction content) (reasons room correction content)
   unfolding reasons
-  reasons-judged = rows-judged (reasonRows room c f) (ownReasons room c f) rows-agree
+  reasons-judged = rows-judged (reasonRows room correction content) (ownReasons room correction content) rows-agree
 
-  pub reasons-numbers : Among correctNumbers (reasons room c f)
+  pub reasons-numbers : Among correctNumbers (reasons room correction content)
   unfolding reasons among
-  reasons-numbers = rows-numbers correctNumbers (reasonRows room c f) refl
+  reasons-numbers = rows-numbers correctNumbers (reasonRows room correction content) refl
 
 -- the record's own test, and the file's
 field-20 : (p n : ℕ) (r : List ℕ) → Refusing (λ m q. (m ≡ 20) × (q ≡ 0)) (nameFieldTest p n r)
@@ -262,9 +263,9 @@ only-20 : (ns : List ℕ) → among 20 ns ≡ true → (a : Answer) → Refusing
 only-20 ns w Accepted h = tt
 only-20 ns w (Refused n p) h = rw (h .0) w
 
-pub record-numbers : (r : List ℕ) → Among recordNumbers (recordTest r)
+pub record-numbers : («record» : List ℕ) → Among recordNumbers (recordTest «record»)
 unfolding among
-record-numbers r = only-20 recordNumbers refl (recordTest r) (record-20 r)
+record-numbers «record» = only-20 recordNumbers refl (recordTest «record») (record-20 «record»)
 
 file-tests : (b : List ℕ) → Bytes b → Tests (fileTest b) (record { holds = IsFile b → ⊥; answer = fileTest b })
 file-tests b y = record {

@@ -82,19 +82,24 @@ earlier-stand (suc m) k b len l =
       stand = ap (λ (v : Run). v .buffer) (turn-stop m k b len l n p x);
     }
 
-pub earlier-left : (b : List ℕ) (len : ℕ) (l : List ℕ) → runList b len l .buffer ≡ runList b len (firstRecords (runList b len l .outcome .count) l) .buffer
+pub earlier-left : (buffer : List ℕ) (len : ℕ) (list : List ℕ)
+    → runList buffer len list .buffer
+    ≡ runList buffer len (firstRecords (runList buffer len list .outcome .count) list) .buffer
 unfolding turns
-earlier-left b len l = go (eqb (length l % 96) 0) refl
+earlier-left buffer len list = go (eqb (length list % 96) 0) refl
   where
-    go : (t : Bool) → eqb (length l % 96) 0 ≡ t → runList b len l .buffer ≡ runList b len (firstRecords (runList b len l .outcome .count) l) .buffer
+    go : (t : Bool) → eqb (length list % 96) 0 ≡ t
+        → runList buffer len list .buffer
+        ≡ runList buffer len (firstRecords (runList buffer len list .outcome .count) list) .buffer
     go true t =
-        let s = earlier-stand (length l / 96) 0 b len l in
-        let r = list-run b len l (eqb-true (length l % 96) 0 t) in
-        let c : runList b len l .outcome .count ≡ s .done = ap (λ (v : Run). v .outcome .count) r ∙ s .counted ∙ omega arith in
-        ap (λ (v : Run). v .buffer) r ∙ s .stand ∙ sym (rw c (ap (λ (v : Run). v .buffer) (first-run (s .done) b len l (s .most))))
+        let s = earlier-stand (length list / 96) 0 buffer len list in
+        let r = list-run buffer len list (eqb-true (length list % 96) 0 t) in
+        let c : runList buffer len list .outcome .count ≡ s .done = ap (λ (v : Run). v .outcome .count) r ∙ s .counted ∙ omega arith in
+        ap (λ (v : Run). v .buffer) r ∙ s .stand
+        ∙ sym (rw c (ap (λ (v : Run). v .buffer) (first-run (s .done) buffer len list (s .most))))
     go false t =
-        let r = list-20 b len l (eqb-false (length l % 96) 0 t) in
-        ap (λ (v : Run). v .buffer) r ∙ sym (rw (ap (λ (v : Run). v .outcome .count) r) (ap (λ (v : Run). v .buffer) (first-run 0 b len l (omega arith))))
+        let r = list-20 buffer len list (eqb-false (length list % 96) 0 t) in
+        ap (λ (v : Run). v .buffer) r ∙ sym (rw (ap (λ (v : Run). v .outcome .count) r) (ap (λ (v : Run). v .buffer) (first-run 0 buffer len list (omega arith))))
 
 -- a record in its turn is answered by its own reasons on the model, and carried out leaves the model's next file
 module _ (k : ℕ) (b l : List ℕ) (f : File) (s : Held k b l f) where
@@ -119,132 +124,158 @@ module _ (k : ℕ) (b l : List ℕ) (f : File) (s : Held k b l f) where
         ∙ rw (held-new 0 k b l f s, settled-again (layout (fileAfter (suc k) (correctionAt l) f)) (layout (fileAfter k (correctionAt l) f)) (greatest k (correctionAt l) f) b (s .low))
 
 -- records keep the header's characters and any index
-pub header-kept : (k : ℕ) (cs : ℕ → Correction) (f : File) → (fileAfter k cs f .flow-characters ≡ f .flow-characters) × (fileAfter k cs f .key ≡ f .key) × (fileAfter k cs f .index ≡ f .index)
+pub header-kept : (k : ℕ) (cs : ℕ → Correction) (content : File)
+    → (fileAfter k cs content .flow-characters ≡ content .flow-characters)
+    × (fileAfter k cs content .key ≡ content .key) × (fileAfter k cs content .index ≡ content .index)
 unfolding fileAfter edited
-header-kept zero cs f = (refl, refl, refl)
-header-kept (suc k) cs f = header-kept k cs f
+header-kept zero cs content = (refl, refl, refl)
+header-kept (suc k) cs content = header-kept k cs content
 
 -- what the model's file leaves are bytes
 bytes-laid : (f : File) → Valid f → Bytes (layout f)
 bytes-laid f v = accepted (layout f) .1 (f, v, refl) .0
 
 -- on an accepted file
-module _ (b : List ℕ) (len : ℕ) (l : List ℕ) (y : Bytes b) (z : Bytes l) (h : len ≤ length b) (e : fileTest (take len b) ≡ Accepted) where
-  abbrev file : File
-  file = parse (take len b)
+module _ (buffer : List ℕ) (len : ℕ) (list : List ℕ) (y : Bytes buffer) (z : Bytes list) (h : len ≤ length buffer) (e : fileTest (take len buffer) ≡ Accepted) where
+  abbrev content : File
+  content = parse (take len buffer)
 
-  held-upto : (all k : ℕ) → k ≤ firstRefused all 0 (length b) l file → Held k b l file
-  held-upto all zero i = start-held b len l y z h e .2
-  held-upto all (suc k) i = held-more k b l file z (held-upto all k (omega arith)) (none-before (length b) l file all 0 k (omega arith) (omega arith))
+  held-upto : (all k : ℕ) → k ≤ firstRefused all 0 (length buffer) list content → Held k buffer list content
+  held-upto all zero i = start-held buffer len list y z h e .2
+  held-upto all (suc k) i =
+      held-more k buffer list content z (held-upto all k (omega arith))
+      (none-before (length buffer) list content all 0 k (omega arith) (omega arith))
 
-  first-short : (all k : ℕ) → k ≤ firstRefused all 0 (length b) l file → firstRefused k 0 (length b) l file ≡ k
-  first-short all k i = go (leb k (firstRefused k 0 (length b) l file)) refl
+  first-short : (all k : ℕ) → k ≤ firstRefused all 0 (length buffer) list content
+      → firstRefused k 0 (length buffer) list content ≡ k
+  first-short all k i = go (leb k (firstRefused k 0 (length buffer) list content)) refl
     where
-      go : (t : Bool) → leb k (firstRefused k 0 (length b) l file) ≡ t → firstRefused k 0 (length b) l file ≡ k
-      go true t = let a = leb-true k (firstRefused k 0 (length b) l file) t in let m = first-most (length b) l file k 0 in omega (arith, a, m)
+      go : (t : Bool) → leb k (firstRefused k 0 (length buffer) list content) ≡ t
+          → firstRefused k 0 (length buffer) list content ≡ k
+      go true t = let a = leb-true k (firstRefused k 0 (length buffer) list content) t in let m = first-most (length buffer) list content k 0 in omega (arith, a, m)
       go false t =
-          let a = leb-false k (firstRefused k 0 (length b) l file) t in
-          absurd (one-at (length b) l file k 0 (omega (arith, a)) (none-before (length b) l file all 0 (firstRefused k 0 (length b) l file) (omega arith) (omega (arith, a))))
+          let a = leb-false k (firstRefused k 0 (length buffer) list content) t in
+          absurd (one-at (length buffer) list content k 0 (omega (arith, a)) (none-before (length buffer) list content all 0 (firstRefused k 0 (length buffer) list content) (omega arith) (omega (arith, a))))
 
   -- what the first k records leave, of those before the first for which a reason holds
-  before-is : (k : ℕ) → k ≤ firstRefused (length l / 96) 0 (length b) l file
-      → runList b len (firstRecords k l) ≡ ran k Accepted (length (layout (fileAfter k (correctionAt l) file))) (settled (layout (fileAfter k (correctionAt l) file)) (greatest k (correctionAt l) file) b)
+  before-is : (k : ℕ) → k ≤ firstRefused (length list / 96) 0 (length buffer) list content
+      → runList buffer len (firstRecords k list)
+      ≡ ran k Accepted (length (layout (fileAfter k (correctionAt list) content)))
+      (settled (layout (fileAfter k (correctionAt list) content)) (greatest k (correctionAt list) content) buffer)
   unfolding lastTried
   before-is k i =
-      let m = first-most (length b) l file (length l / 96) 0 in
-      first-run k b len l (omega (arith, m)) ∙ turns-claim b len l y z h e k ∙ rw (first-short (length l / 96) k i, le-ltb k k (omega arith))
+      let m = first-most (length buffer) list content (length list / 96) 0 in
+      first-run k buffer len list (omega (arith, m)) ∙ turns-claim buffer len list y z h e k
+      ∙ rw (first-short (length list / 96) k i, le-ltb k k (omega arith))
 
   -- of a whole list: the count, and each record up to it in its turn
-  module _ (w : length l % 96 ≡ 0) where
+  module _ (w : length list % 96 ≡ 0) where
     abbrev all : ℕ
-    all = length l / 96
+    all = length list / 96
 
     abbrev count : ℕ
-    count = runList b len l .outcome .count
+    count = runList buffer len list .outcome .count
 
     abbrev before : ℕ → Run
-    before k = runList b len (firstRecords k l)
+    before k = runList buffer len (firstRecords k list)
 
-    run-is : runList b len l ≡ runOn all (firstRefused all 0 (length b) l file) b l file
-    run-is = list-claim b len l y z h e w
+    run-is : runList buffer len list ≡ runOn all (firstRefused all 0 (length buffer) list content) buffer list content
+    run-is = list-claim buffer len list y z h e w
 
-    count-is : count ≡ firstRefused all 0 (length b) l file
+    count-is : count ≡ firstRefused all 0 (length buffer) list content
     count-is = ap (λ (x : Run). x .outcome .count) run-is
 
-    answer-is : runList b len l .outcome .answer ≡ lastTried all (firstRefused all 0 (length b) l file) (length b) l file
+    answer-is : runList buffer len list .outcome .answer
+        ≡ lastTried all (firstRefused all 0 (length buffer) list content) (length buffer) list content
     answer-is = ap (λ (x : Run). x .outcome .answer) run-is
 
     pub count-most : count ≤ all
-    count-most = rw count-is (stop-most (length b) l file all z)
+    count-most = rw count-is (stop-most (length buffer) list content all z)
 
-    pub none-of-carried : (k : ℕ) → k < count → NoneHolds (reasonsInTurn (length b) k l file)
-    none-of-carried k i = stop-before (length b) l file all z k (rw count-is at i)
+    pub none-of-carried : (k : ℕ) → k < count → NoneHolds (reasonsInTurn (length buffer) k list content)
+    none-of-carried k i = stop-before (length buffer) list content all z k (rw count-is at i)
 
-    pub some-of-refused : count < all → NoneHolds (reasonsInTurn (length b) count l file) → ⊥
-    some-of-refused = rw count-is (stop-refused (length b) l file all z)
+    pub some-of-refused : count < all → NoneHolds (reasonsInTurn (length buffer) count list content) → ⊥
+    some-of-refused = rw count-is (stop-refused (length buffer) list content all z)
 
-    pub first-of-refused : count < all → FirstHolds (reasonsInTurn (length b) count l file) (runList b len l .outcome .answer)
-    first-of-refused = rw (answer-is, count-is) (stop-first (length b) l file all z)
+    pub first-of-refused : count < all
+        → FirstHolds (reasonsInTurn (length buffer) count list content) (runList buffer len list .outcome .answer)
+    first-of-refused = rw (answer-is, count-is) (stop-first (length buffer) list content all z)
 
-    pub all-carried : count ≡ all → runList b len l .outcome .answer ≡ Accepted
+    pub all-carried : count ≡ all → runList buffer len list .outcome .answer ≡ Accepted
     unfolding lastTried
-    all-carried i = rw (answer-is, le-ltb (firstRefused all 0 (length b) l file) all (omega (arith, sym i ∙ count-is)))
+    all-carried i =
+        rw (answer-is, le-ltb (firstRefused all 0 (length buffer) list content) all (omega (arith, sym i ∙ count-is)))
 
     -- what the list leaves is what the records that were carried out leave
-    pub run-leaves : (runList b len l .outcome .length ≡ before count .outcome .length) × (runList b len l .buffer ≡ before count .buffer)
+    pub run-leaves : (runList buffer len list .outcome .length ≡ before count .outcome .length)
+        × (runList buffer len list .buffer ≡ before count .buffer)
     run-leaves = let p = before-is count (omega (arith, count-is)) in (rw (p, count-is, run-is), rw (p, count-is, run-is))
 
     -- each record up to the count meets the file as those before it left it
     module _ (k : ℕ) (i : k ≤ count) where
-      held : Held k b l file
+      held : Held k buffer list content
       held = held-upto all k (omega (arith, count-is))
 
-      here : before k ≡ ran k Accepted (length (layout (fileAfter k (correctionAt l) file))) (settled (layout (fileAfter k (correctionAt l) file)) (greatest k (correctionAt l) file) b)
+      here : before k
+          ≡ ran k Accepted (length (layout (fileAfter k (correctionAt list) content)))
+          (settled (layout (fileAfter k (correctionAt list) content)) (greatest k (correctionAt list) content) buffer)
       here = before-is k (omega (arith, count-is))
 
-      pub valid-in-turn : Valid (fileAfter k (correctionAt l) file)
+      pub valid-in-turn : Valid (fileAfter k (correctionAt list) content)
       valid-in-turn = held .valid
 
-      pub room-in-turn : length (before k .buffer) ≡ length b
-      room-in-turn = rw here (length-settled (layout (fileAfter k (correctionAt l) file)) (greatest k (correctionAt l) file) b (held .low) (held .high))
+      pub room-in-turn : length (before k .buffer) ≡ length buffer
+      room-in-turn = rw here (length-settled (layout (fileAfter k (correctionAt list) content)) (greatest k (correctionAt list) content) buffer (held .low) (held .high))
 
-      pub file-in-turn : take (before k .outcome .length) (before k .buffer) ≡ layout (fileAfter k (correctionAt l) file)
-      file-in-turn = rw here (take-settled (layout (fileAfter k (correctionAt l) file)) (greatest k (correctionAt l) file) b)
+      pub file-in-turn : take (before k .outcome .length) (before k .buffer)
+          ≡ layout (fileAfter k (correctionAt list) content)
+      file-in-turn = rw here (take-settled (layout (fileAfter k (correctionAt list) content)) (greatest k (correctionAt list) content) buffer)
 
-      pub inside-in-turn : before k .outcome .length ≤ length b
+      pub inside-in-turn : before k .outcome .length ≤ length buffer
       inside-in-turn = let s = held in rw here (omega (arith, s .low, s .high))
 
       pub bytes-in-turn : Bytes (before k .buffer)
       unfolding settled
       bytes-in-turn =
           rw here
-          (bytes-both (filled (greatest k (correctionAt l) file) (layout (fileAfter k (correctionAt l) file))) (drop (greatest k (correctionAt l) file) b)
-          (bytes-filled (greatest k (correctionAt l) file) (layout (fileAfter k (correctionAt l) file)) (bytes-laid (fileAfter k (correctionAt l) file) valid-in-turn)) (bytes-drop (greatest k (correctionAt l) file) b y))
+          (bytes-both (filled (greatest k (correctionAt list) content) (layout (fileAfter k (correctionAt list) content))) (drop (greatest k (correctionAt list) content) buffer)
+          (bytes-filled (greatest k (correctionAt list) content) (layout (fileAfter k (correctionAt list) content)) (bytes-laid (fileAfter k (correctionAt list) content) valid-in-turn)) (bytes-drop (greatest k (correctionAt list) content) buffer y))
 
       -- so 14 and the file's refusal hold of none in its turn, and its other reasons are those on that file
-      pub reasons-in-turn : NoneHolds (reasonsAgainst (before k .buffer) (before k .outcome .length) (recordAt k l)) ↔ NoneHolds (reasonsInTurn (length b) k l file)
+      pub reasons-in-turn : NoneHolds (reasonsAgainst (before k .buffer) (before k .outcome .length) (recordAt k list))
+          ↔ NoneHolds (reasonsInTurn (length buffer) k list content)
       reasons-in-turn =
-          let p : parse (take (before k .outcome .length) (before k .buffer)) ≡ fileAfter k (correctionAt l) file = rw file-in-turn (file-back (fileAfter k (correctionAt l) file) valid-in-turn) in
-          let o : IsFile (take (before k .outcome .length) (before k .buffer)) = rw file-in-turn (fileAfter k (correctionAt l) file, valid-in-turn, refl) in (
+          let p : parse (take (before k .outcome .length) (before k .buffer)) ≡ fileAfter k (correctionAt list) content = rw file-in-turn (file-back (fileAfter k (correctionAt list) content) valid-in-turn) in
+          let o : IsFile (take (before k .outcome .length) (before k .buffer)) = rw file-in-turn (fileAfter k (correctionAt list) content, valid-in-turn, refl) in (
             (λ n. (n .1 .0, rw (room-in-turn, p) at (n .1 .1 .1))),
             (λ n. ((λ q. omega (arith, inside-in-turn, room-in-turn, q)), (n .0, ((λ q. q o), rw (room-in-turn, p) (n .1))))),
           )
 
     -- and is carried out on it, the next one on what it leaves; the first that is refused ends the list
     pub on-in-turn : (k : ℕ) → k < count
-        → before (suc k) ≡ ran (suc k) Accepted (correctOutcome (before k .buffer) (before k .outcome .length) (recordAt k l) .length) (correctBuffer (before k .buffer) (before k .outcome .length) (recordAt k l))
+        → before (suc k)
+        ≡ ran (suc k) Accepted
+        (correctOutcome (before k .buffer) (before k .outcome .length) (recordAt k list) .length)
+        (correctBuffer (before k .buffer) (before k .outcome .length) (recordAt k list))
     on-in-turn k i =
         let s = held k (omega arith) in
-        let a = none-before (length b) l file all 0 k (omega arith) (omega (arith, count-is)) in
-        here (suc k) (omega arith) ∙ rw (here k (omega arith), held-length k b l file s a, held-buffer k b l file s a)
+        let a = none-before (length buffer) list content all 0 k (omega arith) (omega (arith, count-is)) in
+        here (suc k) (omega arith)
+        ∙ rw (here k (omega arith), held-length k buffer list content s a, held-buffer k buffer list content s a)
 
     pub stop-in-turn : count < all
-        → runList b len l ≡ ran count (correctOutcome (before count .buffer) (before count .outcome .length) (recordAt count l) .answer) (before count .outcome .length) (before count .buffer)
+        → runList buffer len list
+        ≡ ran count
+        (correctOutcome (before count .buffer) (before count .outcome .length) (recordAt count list) .answer)
+        (before count .outcome .length) (before count .buffer)
     unfolding lastTried
     stop-in-turn i =
         let s = held count (omega arith) in
-        run-is ∙ rw (sym count-is, lt-ltb count all i, here count (omega arith), held-answer count b l file s)
+        run-is
+        ∙ rw (sym count-is, lt-ltb count all i, here count (omega arith), held-answer count buffer list content s)
 
     -- the file that the list leaves
-    pub list-file : take (runList b len l .outcome .length) (runList b len l .buffer) ≡ layout (fileAfter count (correctionAt l) file)
+    pub list-file : take (runList buffer len list .outcome .length) (runList buffer len list .buffer)
+        ≡ layout (fileAfter count (correctionAt list) content)
     list-file = rw (run-leaves .0, run-leaves .1) (file-in-turn count (omega arith))

@@ -172,39 +172,51 @@ turn-judged room k l f y =
     chain-judged _ _ _ _ (record-tests (recordAt k l) (bytes-part (96 * k) 96 l y)) (λ e. reasons-judged room (correctionAt l k) (fileAfter k (correctionAt l) f))
 
 -- any list on any buffer with any stated length
-module _ (b : List ℕ) (len : ℕ) (l : List ℕ) where
-  first-then : correctTest b len (recordAt 0 l) ≡ (firstTest b len l then reasons (length b) (correctionAt l 0) (parse (take len b)))
+module _ (buffer : List ℕ) (len : ℕ) (list : List ℕ) where
+  first-then : correctTest buffer len (recordAt 0 list)
+      ≡ (firstTest buffer len list then reasons (length buffer) (correctionAt list 0) (parse (take len buffer)))
   unfolding correctTest firstTest
-  first-then = sym (then-assoc _ _ _ ∙ ap (λ (a : Answer). when (ltb (length b) len) 14 0 then a) (then-assoc _ _ _))
+  first-then =
+      sym (then-assoc _ _ _ ∙ ap (λ (a : Answer). when (ltb (length buffer) len) 14 0 then a) (then-assoc _ _ _))
 
-  first-inside : firstTest b len l ≡ Accepted → len ≤ length b
+  first-inside : firstTest buffer len list ≡ Accepted → len ≤ length buffer
   unfolding firstTest
   first-inside e = under-ok _ _ _ _ (first-ok _ _ e)
 
-  first-file : firstTest b len l ≡ Accepted → fileTest (take len b) ≡ Accepted
+  first-file : firstTest buffer len list ≡ Accepted → fileTest (take len buffer) ≡ Accepted
   unfolding firstTest
   first-file e = second-ok _ _ (second-ok _ _ e)
 
-  first-stop : (m : ℕ) → length l / 96 ≡ suc m → length l % 96 ≡ 0 → (n p : ℕ) → firstTest b len l ≡ Refused n p → runList b len l ≡ ran 0 (Refused n p) len b
+  first-stop : (m : ℕ) → length list / 96 ≡ suc m → length list % 96 ≡ 0 → (n p : ℕ)
+      → firstTest buffer len list ≡ Refused n p → runList buffer len list ≡ ran 0 (Refused n p) len buffer
   unfolding _then_
-  first-stop m e w n p t = list-run b len l w ∙ rw e (turn-stop m 0 b len l n p (first-then ∙ rw t))
+  first-stop m e w n p t = list-run buffer len list w ∙ rw e (turn-stop m 0 buffer len list n p (first-then ∙ rw t))
 
-  pub every-list : Bytes b → Bytes l → runList b len l ≡ listAfresh b len l
+  pub every-list : Bytes buffer → Bytes list → runList buffer len list ≡ listAfresh buffer len list
   unfolding listAfresh acceptedOr
-  every-list y z = go (eqb (length l % 96) 0) refl (eqb (length l) 0) refl (firstTest b len l) refl
+  every-list y z = go (eqb (length list % 96) 0) refl (eqb (length list) 0) refl (firstTest buffer len list) refl
     where
       after : Run
-      after = runOn (length l / 96) (firstRefused (length l / 96) 0 (length b) l (parse (take len b))) b l (parse (take len b))
+      after =
+          runOn (length list / 96)
+          (firstRefused (length list / 96) 0 (length buffer) list (parse (take len buffer))) buffer list
+          (parse (take len buffer))
 
-      go : (s : Bool) → eqb (length l % 96) 0 ≡ s → (t : Bool) → eqb (length l) 0 ≡ t → (a : Answer) → firstTest b len l ≡ a
-          → runList b len l ≡ cond (not s) (ran 0 (Refused 20 0) len b) (cond t (ran 0 Accepted len b) (acceptedOr a after (ran 0 a len b)))
-      go false e t d a c = list-20 b len l (eqb-false (length l % 96) 0 e)
-      go true e true d a c = let x = eqb-true (length l) 0 d in list-none b len l (eqb-true (length l % 96) 0 e) (rw x)
-      go true e false d Accepted c = list-claim b len l y z (first-inside c) (first-file c) (eqb-true (length l % 96) 0 e)
+      go : (s : Bool) → eqb (length list % 96) 0 ≡ s → (t : Bool) → eqb (length list) 0 ≡ t → (a : Answer)
+          → firstTest buffer len list ≡ a
+          → runList buffer len list
+          ≡ cond (not s) (ran 0 (Refused 20 0) len buffer)
+          (cond t (ran 0 Accepted len buffer) (acceptedOr a after (ran 0 a len buffer)))
+      go false e t d a c = list-20 buffer len list (eqb-false (length list % 96) 0 e)
+      go true e true d a c =
+          let x = eqb-true (length list) 0 d in
+          list-none buffer len list (eqb-true (length list % 96) 0 e) (rw x)
+      go true e false d Accepted c =
+          list-claim buffer len list y z (first-inside c) (first-file c) (eqb-true (length list % 96) 0 e)
       go true e false d (Refused n p) c =
-          let w = eqb-true (length l % 96) 0 e in
-          let x = eqb-false (length l) 0 d in
-          first-stop (length l / 96 - 1) (omega (arith, w, x)) w n p c
+          let w = eqb-true (length list % 96) 0 e in
+          let x = eqb-false (length list) 0 d in
+          first-stop (length list / 96 - 1) (omega (arith, w, x)) w n p c
 
 -- the number of records that are carried out on an accepted file, by the reasons in words of the model: none holds of a
 -- record before it, and one holds of the record at it
@@ -235,10 +247,13 @@ turns-numbers (suc m) k b len l =
     either-keeps (λ (v : Run). Among correctNumbers (v .outcome .answer)) (correctTest b len r) (turns m (suc k) (correctBuffer b len r) (o .length) l) (ran k (o .answer) (o .length) (correctBuffer b len r))
     (turns-numbers m (suc k) (correctBuffer b len r) (o .length) l) (correct-numbers b len r)
 
-pub list-numbers : (b : List ℕ) (len : ℕ) (l : List ℕ) → Among correctNumbers (runList b len l .outcome .answer)
+pub list-numbers : (buffer : List ℕ) (len : ℕ) (list : List ℕ)
+    → Among correctNumbers (runList buffer len list .outcome .answer)
 unfolding runList among
-list-numbers b len l = go (eqb (length l % 96) 0)
+list-numbers buffer len list = go (eqb (length list % 96) 0)
   where
-    go : (t : Bool) → Among correctNumbers (cond t (turns (length l / 96) 0 b len l) (ran 0 (Refused 20 0) len b) .outcome .answer)
-    go true = turns-numbers (length l / 96) 0 b len l
+    go : (t : Bool)
+        → Among correctNumbers
+        (cond t (turns (length list / 96) 0 buffer len list) (ran 0 (Refused 20 0) len buffer) .outcome .answer)
+    go true = turns-numbers (length list / 96) 0 buffer len list
     go false = refl

@@ -43,88 +43,101 @@ Laid r x =
     × (clipsOf x ≡ clipFields (newQualityLeft r) (newQualityRight r) (newAdapterLeft r) (newAdapterRight r))
 
 -- a well-formed record is the layout of what it says
-module _ (r : List ℕ) (y : Bytes r) (e : recordTest r ≡ Accepted) where
-  name-stands : (p n : ℕ) → n ≤ 40 → p + 40 ≤ length r → Every isZero (part (p + n) (40 - n) r) → Stands p (filled 40 (part p n r)) r
+module _ («record» : List ℕ) (y : Bytes «record») (e : recordTest «record» ≡ Accepted) where
+  name-stands : (p n : ℕ) → n ≤ 40 → p + 40 ≤ length «record» → Every isZero (part (p + n) (40 - n) «record»)
+      → Stands p (filled 40 (part p n «record»)) «record»
   name-stands p n h k z =
-      let l : length (part p n r) ≡ n = length-part p n r (omega arith) in
-      filled-stands p (p + n) 40 (40 - n) (part p n r) r (rw l) (rw l) (omega arith) (read-stands p n r (omega arith)) z
+      let l : length (part p n «record») ≡ n = length-part p n «record» (omega arith) in
+      filled-stands p (p + n) 40 (40 - n) (part p n «record») «record» (rw l) (rw l) (omega arith)
+      (read-stands p n «record» (omega arith)) z
 
-  new-rest : Every isZero (part (56 + newLength r) (40 - newLength r) r)
-  new-rest = go (eqb (kind r) 2) refl
+  new-rest : Every isZero (part (56 + newLength «record») (40 - newLength «record») «record»)
+  new-rest = go (eqb (kind «record») 2) refl
     where
-      go : (t : Bool) → eqb (kind r) 2 ≡ t → Every isZero (part (56 + newLength r) (40 - newLength r) r)
-      go true k = none-fails isZero _ (new-zeros r e k)
-      go false k = rw (no-new-name r e k .0) (no-new-name r e k .1)
+      go : (t : Bool) → eqb (kind «record») 2 ≡ t
+          → Every isZero (part (56 + newLength «record») (40 - newLength «record») «record»)
+      go true k = none-fails isZero _ (new-zeros «record» e k)
+      go false k = rw (no-new-name «record» e k .0) (no-new-name «record» e k .1)
 
-  fields-said : Stands 0 (fields (said r)) r
+  fields-said : Stands 0 (fields (said «record»)) «record»
   fields-said =
-      let l = record-96 r e in
-      let z : getD r 3 0 ≡ 0 = unused-zero 3 r (omega arith) (zero-ok r e) in
-      fields-stand r y (said r) 0 0 (omega arith) (
-        number-one 0 r (omega arith),
+      let l = record-96 «record» e in
+      let z : getD «record» 3 0 ≡ 0 = unused-zero 3 «record» (omega arith) (zero-ok «record» e) in
+      fields-stand «record» y (said «record») 0 0 (omega arith) (
+        number-one 0 «record» (omega arith),
         (
-          number-one 1 r (omega arith),
-          (number-one 2 r (omega arith), (number-one 3 r (omega arith) ∙ z, (refl, (refl, (refl, (refl, (refl, tt))))))),
+          number-one 1 «record» (omega arith),
+          (number-one 2 «record» (omega arith), (number-one 3 «record» (omega arith) ∙ z, (refl, (refl, (refl, (refl, (refl, tt))))))),
         ),
       )
 
-  laid : fields (said r) ++ filled 40 (oldName r) ++ filled 40 (newName r) ≡ r
+  laid : fields (said «record») ++ filled 40 (oldName «record») ++ filled 40 (newName «record») ≡ «record»
   laid =
-      let l = record-96 r e in
-      let o = old-most r e in
-      let n = new-most r e in
-      let lo : length (filled 40 (oldName r)) ≡ 40 = length-filled 40 (oldName r) (rw (old-size r e) o) in
-      let ln : length (filled 40 (newName r)) ≡ 40 = length-filled 40 (newName r) (rw (new-size r e) n) in
-      let lf : length (fields (said r)) ≡ 16 = length-fields (said r) in
-      let l2 : length (fields (said r) ++ filled 40 (oldName r)) ≡ 56 = rw (length-append, lf, lo) in
-      let l3 : length (fields (said r) ++ filled 40 (oldName r) ++ filled 40 (newName r)) ≡ length r = rw (length-append, l2, ln, l) in
-      let s : Stands 0 (fields (said r) ++ filled 40 (oldName r) ++ filled 40 (newName r)) r =
-      stands-both 0 56 (fields (said r) ++ filled 40 (oldName r)) (filled 40 (newName r)) r (rw l2)
-      (stands-both 0 16 (fields (said r)) (filled 40 (oldName r)) r (rw lf) fields-said (name-stands 16 (oldLength r) o (omega arith) (none-fails isZero _ (old-zeros r e))))
-      (name-stands 56 (newLength r) n (omega arith) new-rest) in
-      sym s ∙ rw l3 (take-length r)
+      let l = record-96 «record» e in
+      let o = old-most «record» e in
+      let n = new-most «record» e in
+      let lo : length (filled 40 (oldName «record»)) ≡ 40 = length-filled 40 (oldName «record») (rw (old-size «record» e) o) in
+      let ln : length (filled 40 (newName «record»)) ≡ 40 = length-filled 40 (newName «record») (rw (new-size «record» e) n) in
+      let lf : length (fields (said «record»)) ≡ 16 = length-fields (said «record») in
+      let l2 : length (fields (said «record») ++ filled 40 (oldName «record»)) ≡ 56 = rw (length-append, lf, lo) in
+      let l3 : length (fields (said «record») ++ filled 40 (oldName «record») ++ filled 40 (newName «record»)) ≡ length «record» = rw (length-append, l2, ln, l) in
+      let s : Stands 0 (fields (said «record») ++ filled 40 (oldName «record») ++ filled 40 (newName «record»)) «record» =
+      stands-both 0 56 (fields (said «record») ++ filled 40 (oldName «record»)) (filled 40 (newName «record»)) «record»
+      (rw l2)
+      (stands-both 0 16 (fields (said «record»)) (filled 40 (oldName «record»)) «record» (rw lf) fields-said (name-stands 16 (oldLength «record») o (omega arith) (none-fails isZero _ (old-zeros «record» e))))
+      (name-stands 56 (newLength «record») n (omega arith) new-rest) in
+      sym s ∙ rw l3 (take-length «record»)
 
-  no-clips : eqb (kind r) 1 ≡ false → Numbers r 0 8 (clipFields 0 0 0 0)
+  no-clips : eqb (kind «record») 1 ≡ false → Numbers «record» 0 8 (clipFields 0 0 0 0)
   unfolding newClipsTest
   no-clips k =
-      let l = record-96 r e in
-      let z : Every isZero (part 8 8 r) = unused-zeros 8 8 r (rw k at (new-clips-ok r e)) in
-      let s : Stands 8 (filled 8 []) r = filled-stands 8 8 8 8 [] r refl refl (omega arith) refl z in
-      stand-fields r (clipFields 0 0 0 0) 0 8 (omega arith) (omega arith, (omega arith, (omega arith, (omega arith, tt)))) (rw zero-clips at s)
+      let l = record-96 «record» e in
+      let z : Every isZero (part 8 8 «record») = unused-zeros 8 8 «record» (rw k at (new-clips-ok «record» e)) in
+      let s : Stands 8 (filled 8 []) «record» = filled-stands 8 8 8 8 [] «record» refl refl (omega arith) refl z in
+      stand-fields «record» (clipFields 0 0 0 0) 0 8 (omega arith)
+      (omega arith, (omega arith, (omega arith, (omega arith, tt)))) (rw zero-clips at s)
 
-  no-name : eqb (kind r) 2 ≡ false → [] ≡ newName r
-  no-name k = rw (no-new-name r e k .0)
+  no-name : eqb (kind «record») 2 ≡ false → [] ≡ newName «record»
+  no-name k = rw (no-new-name «record» e k .0)
 
-  old-valid : ValidName (oldName r)
-  old-valid = record { least = rw (old-size r e) (old-least r e); most = rw (old-size r e) (old-most r e); good = old-good r e }
+  old-valid : ValidName (oldName «record»)
+  old-valid = record {
+    least = rw (old-size «record» e) (old-least «record» e);
+    most = rw (old-size «record» e) (old-most «record» e);
+    good = old-good «record» e;
+  }
 
-  change-laid : Laid r (changeIn r)
+  change-laid : Laid «record» (changeIn «record»)
   unfolding changeIn
-  change-laid = go (eqb (kind r) 1) (eqb (kind r) 2) refl refl
+  change-laid = go (eqb (kind «record») 1) (eqb (kind «record») 2) refl refl
     where
-      go : (s t : Bool) → eqb (kind r) 1 ≡ s → eqb (kind r) 2 ≡ t
-          → Laid r (cond s (clips (newQualityLeft r) (newQualityRight r) (newAdapterLeft r) (newAdapterRight r)) (cond t (rename (newName r)) remove))
+      go : (s t : Bool) → eqb (kind «record») 1 ≡ s → eqb (kind «record») 2 ≡ t
+          → Laid «record» (cond s (clips (newQualityLeft «record») (newQualityRight «record») (newAdapterLeft «record») (newAdapterRight «record»)) (cond t (rename (newName «record»)) remove))
       go true t a b =
-          let k = eqb-true (kind r) 1 a in
-          let m : eqb (kind r) 2 ≡ false = ne-eqb (kind r) 2 (λ f. omega arith) in (new-clips-fit r e y, sym k, no-name m, refl)
+          let k = eqb-true (kind «record») 1 a in
+          let m : eqb (kind «record») 2 ≡ false = ne-eqb (kind «record») 2 (λ f. omega arith) in (new-clips-fit «record» e y, sym k, no-name m, refl)
       go false true a b =
           let z = no-clips a in
-          let n : ValidName (newName r) = record { least = rw (new-size r e) (field-least 56 (newLength r) r (renames r e b)); most = rw (new-size r e) (new-most r e); good = new-good r e } in
-          (n, sym (eqb-true (kind r) 2 b), refl, rw (z .0, z .1 .0, z .1 .1 .0, z .1 .1 .1 .0))
+          let n : ValidName (newName «record») = record { least = rw (new-size «record» e) (field-least 56 (newLength «record») «record» (renames «record» e b)); most = rw (new-size «record» e) (new-most «record» e); good = new-good «record» e } in
+          (n, sym (eqb-true (kind «record») 2 b), refl, rw (z .0, z .1 .0, z .1 .1 .0, z .1 .1 .1 .0))
       go false false a b =
-          let i = eqb-false (kind r) 1 a in
-          let j = eqb-false (kind r) 2 b in
-          let l = kind-low r e in
-          let h = kind-high r e in
+          let i = eqb-false (kind «record») 1 a in
+          let j = eqb-false (kind «record») 2 b in
+          let l = kind-low «record» e in
+          let h = kind-high «record» e in
           let z = no-clips a in
-          let k : 3 ≡ kind r = omega arith in (tt, k, no-name b, rw (z .0, z .1 .0, z .1 .1 .0, z .1 .1 .1 .0))
+          let k : 3 ≡ kind «record» = omega arith in (tt, k, no-name b, rw (z .0, z .1 .0, z .1 .1 .0, z .1 .1 .1 .0))
 
-  pub parsed-valid : ValidCorrection (parseRecord r)
-  parsed-valid = record { position-fits = position-fits r e y; old-good = old-valid; change-good = change-laid .0 }
+  pub parsed-valid : ValidCorrection (parseRecord «record»)
+  parsed-valid = record {
+    position-fits = position-fits «record» e y;
+    old-good = old-valid;
+    change-good = change-laid .0;
+  }
 
-  pub parsed-laid : layoutRecord (parseRecord r) ≡ r
+  pub parsed-laid : layoutRecord (parseRecord «record») ≡ «record»
   unfolding layoutRecord recordFields
-  parsed-laid = let c = change-laid in rw (c .1, c .2, c .3, old-size r e, new-size r e) laid
+  parsed-laid = let c = change-laid in rw (c .1, c .2, c .3, old-size «record» e, new-size «record» e) laid
 
 -- the layout of a correction that keeps the rules is well formed
 change-kind : (x : Change) → (1 ≤ kindOf x) × (kindOf x ≤ 3)
@@ -222,29 +235,42 @@ change-back b (clips a c d f) k m n = rw (eq-eqb (kind b) 1 k, n .0, n .1 .0, n 
 change-back b (rename name) k m n = rw (ne-eqb (kind b) 1 (λ g. omega arith), eq-eqb (kind b) 2 k, m)
 change-back b remove k m n = rw (ne-eqb (kind b) 1 (λ g. omega arith), ne-eqb (kind b) 2 (λ g. omega arith))
 
-module _ (c : Correction) (v : ValidCorrection c) where
+module _ (correction : Correction) (v : ValidCorrection correction) where
   abbrev b : List ℕ
-  b = layoutRecord c
+  b = layoutRecord correction
 
   l : length b ≡ 96
-  l = record-size c v
+  l = record-size correction v
 
-  front : Stands 0 (fields (recordFields c) ++ filled 40 (c .old-name)) b
+  front : Stands 0 (fields (recordFields correction) ++ filled 40 (correction .old-name)) b
   unfolding layoutRecord
-  front = let h = l in stands-left 0 (fields (recordFields c) ++ filled 40 (c .old-name)) (filled 40 (nameOf (c .change))) b (omega arith) (stands-self b)
+  front =
+      let h = l in
+      stands-left 0 (fields (recordFields correction) ++ filled 40 (correction .old-name))
+      (filled 40 (nameOf (correction .change))) b (omega arith) (stands-self b)
 
-  new : Stands 56 (filled 40 (nameOf (c .change))) b
+  new : Stands 56 (filled 40 (nameOf (correction .change))) b
   unfolding layoutRecord
-  new = let h = l in stands-right 0 56 (fields (recordFields c) ++ filled 40 (c .old-name)) (filled 40 (nameOf (c .change))) b (rw (front-size c v)) (omega arith) (stands-self b)
+  new =
+      let h = l in
+      stands-right 0 56 (fields (recordFields correction) ++ filled 40 (correction .old-name))
+      (filled 40 (nameOf (correction .change))) b (rw (front-size correction v)) (omega arith) (stands-self b)
 
-  old : Stands 16 (filled 40 (c .old-name)) b
-  old = let h = l in stands-right 0 16 (fields (recordFields c)) (filled 40 (c .old-name)) b (rw (fields-size c v)) (omega arith) front
+  old : Stands 16 (filled 40 (correction .old-name)) b
+  old =
+      let h = l in
+      stands-right 0 16 (fields (recordFields correction)) (filled 40 (correction .old-name)) b
+      (rw (fields-size correction v)) (omega arith) front
 
-  numbers : Numbers b 0 0 (recordFields c)
-  numbers = let h = l in stand-fields b (recordFields c) 0 0 (omega arith) (fit c v) (stands-left 0 (fields (recordFields c)) (filled 40 (c .old-name)) b (omega arith) front)
+  numbers : Numbers b 0 0 (recordFields correction)
+  numbers =
+      let h = l in
+      stand-fields b (recordFields correction) 0 0 (omega arith) (fit correction v)
+      (stands-left 0 (fields (recordFields correction)) (filled 40 (correction .old-name)) b (omega arith) front)
 
   -- the fields of one byte
-  ones : (kind b ≡ kindOf (c .change)) × (oldLength b ≡ length (c .old-name)) × (newLength b ≡ length (nameOf (c .change))) × (getD b 3 0 ≡ 0)
+  ones : (kind b ≡ kindOf (correction .change)) × (oldLength b ≡ length (correction .old-name))
+      × (newLength b ≡ length (nameOf (correction .change))) × (getD b 3 0 ≡ 0)
   unfolding recordFields
   ones =
       let h = l in
@@ -255,7 +281,7 @@ module _ (c : Correction) (v : ValidCorrection c) where
         sym (number-one 3 b (omega arith)) ∙ n .1 .1 .1 .0,
       )
 
-  clips-there : Numbers b 0 8 (clipsOf (c .change))
+  clips-there : Numbers b 0 8 (clipsOf (correction .change))
   unfolding recordFields
   clips-there = numbers .1 .1 .1 .1 .1
 
@@ -264,7 +290,7 @@ module _ (c : Correction) (v : ValidCorrection c) where
   record-taken =
       let h = l in
       let o = ones in
-      let x = c .change in
+      let x = correction .change in
       let q = change-kind x in
       both-ok _ _ (ok-same (length b) 96 _ _ l)
       (
@@ -272,8 +298,8 @@ module _ (c : Correction) (v : ValidCorrection c) where
       (
       both-ok _ _ (zero-unused 3 b (omega arith) (o .3))
       (
-      both-ok _ _ (rw (o .1) (name-taken 16 (c .old-name) b (v .old-good) (omega arith) old))
-      (both-ok _ _ (clips-taken b (record-bytes c v) l x (o .0) clips-there) (new-taken b (record-bytes c v) l x (v .change-good) (o .0) (o .2) new))
+      both-ok _ _ (rw (o .1) (name-taken 16 (correction .old-name) b (v .old-good) (omega arith) old))
+      (both-ok _ _ (clips-taken b (record-bytes correction v) l x (o .0) clips-there) (new-taken b (record-bytes correction v) l x (v .change-good) (o .0) (o .2) new))
       )
       )
       )
@@ -282,14 +308,14 @@ module _ (c : Correction) (v : ValidCorrection c) where
   name-back : (p n : ℕ) (name : List ℕ) → p ≤ 96 → n ≡ length name → Stands p (filled 40 name) b → part p n b ≡ name
   name-back p n name i e s = let h = l in rw e (stands-filled p (p + length name) 40 (40 - length name) name b refl refl (omega arith) s .0)
 
-  pub laid-parsed : parseRecord b ≡ c
+  pub laid-parsed : parseRecord b ≡ correction
   unfolding recordFields
   laid-parsed =
       let o = ones in
-      let at : position b ≡ c .position = numbers .1 .1 .1 .1 .0 in
-      let from : oldName b ≡ c .old-name = name-back 16 (oldLength b) (c .old-name) (omega arith) (o .1) old in
-      let to : newName b ≡ nameOf (c .change) = name-back 56 (newLength b) (nameOf (c .change)) (omega arith) (o .2) new in
-      let x : changeIn b ≡ c .change = change-back b (c .change) (o .0) to clips-there in
+      let at : position b ≡ correction .position = numbers .1 .1 .1 .1 .0 in
+      let from : oldName b ≡ correction .old-name = name-back 16 (oldLength b) (correction .old-name) (omega arith) (o .1) old in
+      let to : newName b ≡ nameOf (correction .change) = name-back 56 (newLength b) (nameOf (correction .change)) (omega arith) (o .2) new in
+      let x : changeIn b ≡ correction .change = change-back b (correction .change) (o .0) to clips-there in
       λ j. record { position = at j; old-name = from j; change = x j }
 
 -- well formed exactly: some correction that keeps the rules is laid out so

@@ -19,19 +19,19 @@ use Rattle.sff_correction.specs.Reasons.{reasons}
 -- "Order, place 0 for the record's own: 14; 20 ..; the file's refusal; 21 ..; 22 ..; 25 ..; 23 ..; 24 ..; 26 no room.
 -- None is given otherwise."
 unfoldable pub correctTest : List ℕ → ℕ → List ℕ → Answer
-correctTest buffer len r =
+correctTest buffer len «record» =
     when (ltb (length buffer) len) 14 0
-    then recordTest r
+    then recordTest «record»
     then fileTest (take len buffer)
-    then reasons (length buffer) (parseRecord r) (parse (take len buffer))
+    then reasons (length buffer) (parseRecord «record») (parse (take len buffer))
 
 -- the file written afresh from its reads, with the one of the record changed or left out
 abbrev pub corrected : List ℕ → ℕ → List ℕ → List ℕ
-corrected buffer len r = layout (edited (parseRecord r) (parse (take len buffer)))
+corrected buffer len «record» = layout (edited (parseRecord «record») (parse (take len buffer)))
 
 -- the answer, and "the file's length afterwards (the length given if nothing is done)"
 unfoldable pub correctOutcome : List ℕ → ℕ → List ℕ → Outcome
-correctOutcome buffer len r = outcome (correctTest buffer len r) len (length (corrected buffer len r))
+correctOutcome buffer len «record» = outcome (correctTest buffer len «record») len (length (corrected buffer len «record»))
 
 -- the file `new` over one of length `len`: "If the file shrinks, bytes from new to old length become 0; all beyond the
 -- longer of the two keep their contents"
@@ -40,4 +40,4 @@ over new len buffer = settled new (max len (length new)) buffer
 
 -- the whole buffer: as it was where the correction is refused
 unfoldable pub correctBuffer : List ℕ → ℕ → List ℕ → List ℕ
-correctBuffer buffer len r = acceptedOr (correctTest buffer len r) (over (corrected buffer len r) len buffer) buffer
+correctBuffer buffer len «record» = acceptedOr (correctTest buffer len «record») (over (corrected buffer len «record») len buffer) buffer

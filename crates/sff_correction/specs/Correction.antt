@@ -20,10 +20,10 @@ pub record Correction : Type 0 where
 
 -- the same change of the read at another position
 abbrev pub moved : ℕ → Correction → Correction
-moved i c = record { position = i; old-name = c .old-name; change = c .change }
+moved position correction = record { position = position; old-name = correction .old-name; change = correction .change }
 
 abbrev pub isClips : Change → Bool
-isClips (clips a b c d) = true
+isClips (clips quality-left quality-right adapter-left adapter-right) = true
 isClips (rename name) = false
 isClips remove = false
 
@@ -34,12 +34,13 @@ pub record ValidName (name : List ℕ) : Type 0 where
   pub good : Every isNameByte name
 
 abbrev pub ValidChange : Change → Type 0
-ValidChange (clips a b c d) = Words (a ∷ b ∷ c ∷ d ∷ [])
+ValidChange (clips quality-left quality-right adapter-left adapter-right) =
+    Words (quality-left ∷ quality-right ∷ adapter-left ∷ adapter-right ∷ [])
 ValidChange (rename name) = ValidName name
 ValidChange remove = Unit {0}
 
 -- the old name is such a name, and the numbers fit their fields
-pub record ValidCorrection (c : Correction) : Type 0 where
-  pub position-fits : c .position < 4294967296
-  pub old-good : ValidName (c .old-name)
-  pub change-good : ValidChange (c .change)
+pub record ValidCorrection (correction : Correction) : Type 0 where
+  pub position-fits : correction .position < 4294967296
+  pub old-good : ValidName (correction .old-name)
+  pub change-good : ValidChange (correction .change)

@@ -7,42 +7,45 @@ use Rattle.sff_correction.specs.Correction.{Change, clips, rename, remov
 
 -- the read with new clips, in file order
 abbrev pub clipped : ℕ → ℕ → ℕ → ℕ → Read → Read
-clipped a b c d x = record {
-  name = x .name;
-  quality-left = a;
-  quality-right = b;
-  adapter-left = c;
-  adapter-right = d;
-  values = x .values;
-  increments = x .increments;
-  bases = x .bases;
-  qualities = x .qualities;
+clipped quality-left quality-right adapter-left adapter-right read = record {
+  name = read .name;
+  quality-left = quality-left;
+  quality-right = quality-right;
+  adapter-left = adapter-left;
+  adapter-right = adapter-right;
+  values = read .values;
+  increments = read .increments;
+  bases = read .bases;
+  qualities = read .qualities;
 }
 
 -- the read with a new name
 abbrev pub renamed : List ℕ → Read → Read
-renamed name x = record {
+renamed name read = record {
   name = name;
-  quality-left = x .quality-left;
-  quality-right = x .quality-right;
-  adapter-left = x .adapter-left;
-  adapter-right = x .adapter-right;
-  values = x .values;
-  increments = x .increments;
-  bases = x .bases;
-  qualities = x .qualities;
+  quality-left = read .quality-left;
+  quality-right = read .quality-right;
+  adapter-left = read .adapter-left;
+  adapter-right = read .adapter-right;
+  values = read .values;
+  increments = read .increments;
+  bases = read .bases;
+  qualities = read .qualities;
 }
 
 -- what comes in the place of the read: one read, or none
 unfoldable pub instead : Change → Read → List Read
-instead (clips a b c d) x = clipped a b c d x ∷ []
-instead (rename name) x = renamed name x ∷ []
-instead remove x = []
+instead (clips quality-left quality-right adapter-left adapter-right) read =
+    clipped quality-left quality-right adapter-left adapter-right read ∷ []
+instead (rename name) read = renamed name read ∷ []
+instead remove read = []
 
 -- the read that the correction is about
 abbrev pub target : Correction → File → Read
-target c f = readAt f (c .position)
+target correction content = readAt content (correction .position)
 
 -- the file as the correction, carried out, leaves it: header, index and all other reads as they were
 unfoldable pub edited : Correction → File → File
-edited c f = withReads (replaced (c .position) (instead (c .change) (target c f)) (f .reads)) f
+edited correction content =
+    withReads (replaced (correction .position) (instead (correction .change) (target correction content)) (content .reads))
+    content

@@ -7,23 +7,23 @@ use Rattle.sff_correction.specs.Record.{kind, oldLength, newLength, newQ
 use Rattle.sff_correction.specs.Correction.{Correction, moved}
 use Rattle.sff_correction.specs.RecordLayout.{parseRecord}
 
--- those of the record r, for the read at position i
+-- those of a record, for the read at a position
 abbrev pub fieldsAt : ℕ → List ℕ → Fields
-fieldsAt i r = record {
-  kind = kind r;
-  position = i;
-  «old_length» = oldLength r;
-  «new_length» = newLength r;
-  «quality_left» = newQualityLeft r;
-  «quality_right» = newQualityRight r;
-  «adapter_left» = newAdapterLeft r;
-  «adapter_right» = newAdapterRight r;
+fieldsAt position «record» = record {
+  kind = kind «record»;
+  position = position;
+  «old_length» = oldLength «record»;
+  «new_length» = newLength «record»;
+  «quality_left» = newQualityLeft «record»;
+  «quality_right» = newQualityRight «record»;
+  «adapter_left» = newAdapterLeft «record»;
+  «adapter_right» = newAdapterRight «record»;
 }
 
--- x are the fields of the record r, but for the position
+-- they are the fields of the record, but for the position
 abbrev pub FieldsOf : Fields → List ℕ → Type 0
-FieldsOf x r = x ≡ fieldsAt (x .position) r
+FieldsOf fields «record» = fields ≡ fieldsAt (fields .position) «record»
 
 -- the correction that they ask for: the record's, at their position
 abbrev pub asked : Fields → List ℕ → Correction
-asked x r = moved (x .position) (parseRecord r)
+asked fields «record» = moved (fields .position) (parseRecord «record»)

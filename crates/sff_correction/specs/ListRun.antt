@@ -11,13 +11,13 @@ use Rattle.answers.specs.Answer.{acceptedOr}
 use Rattle.sff_correction.specs.declared.ListOutcome.{ListOutcome}
 use Rattle.sff_correction.specs.Correct.{correctTest, correctOutcome, correctBuffer}
 
--- "A list is records of 96 bytes, no header": the record at position k of the list l
+-- "A list is records of 96 bytes, no header": the record at position k of the list
 abbrev pub recordAt : ℕ → List ℕ → List ℕ
-recordAt k l = part (96 * k) 96 l
+recordAt k list = part (96 * k) 96 list
 
 -- its first k records
 abbrev pub firstRecords : ℕ → List ℕ → List ℕ
-firstRecords k l = take (96 * k) l
+firstRecords k list = take (96 * k) list
 
 -- what a run leaves: its answer and the buffer
 pub record Run : Type 0 where
@@ -31,13 +31,14 @@ ran count answer len buffer = record { outcome = record { count = count; answer 
 -- ones stand. The answer has their count and the number, place and length of the last record tried." m records are
 -- left, and the next is at position k
 unfoldable pub turns : ℕ → ℕ → List ℕ → ℕ → List ℕ → Run
-turns zero k buffer len l = ran k Accepted len buffer
-turns (suc m) k buffer len l =
-    let r = recordAt k l in
-    let o = correctOutcome buffer len r in
-    let more = turns m (suc k) (correctBuffer buffer len r) (o .length) l in
-    acceptedOr (correctTest buffer len r) more (ran k (o .answer) (o .length) (correctBuffer buffer len r))
+turns zero k buffer len list = ran k Accepted len buffer
+turns (suc m) k buffer len list =
+    let «record» = recordAt k list in
+    let outcome = correctOutcome buffer len «record» in
+    let more = turns m (suc k) (correctBuffer buffer len «record») (outcome .length) list in
+    acceptedOr (correctTest buffer len «record») more (ran k (outcome .answer) (outcome .length) (correctBuffer buffer len «record»))
 
 -- "A list's length is a multiple of 96, else 20 before all else, with nothing done"
 unfoldable pub runList : List ℕ → ℕ → List ℕ → Run
-runList buffer len l = cond (eqb (length l % 96) 0) (turns (length l / 96) 0 buffer len l) (ran 0 (Refused 20 0) len buffer)
+runList buffer len list =
+    cond (eqb (length list % 96) 0) (turns (length list / 96) 0 buffer len list) (ran 0 (Refused 20 0) len buffer)

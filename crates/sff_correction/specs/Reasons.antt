@@ -18,59 +18,65 @@ use Rattle.sff_correction.specs.Edit.{target, edited}
 
 -- there is a read at the position. 22, 23, 24 and 26 speak of that read, so without one they do not hold
 abbrev pub hasTarget : Correction → File → Bool
-hasTarget c f = ltb (c .position) (length (f .reads))
+hasTarget correction content = ltb (correction .position) (length (content .reads))
 
 -- some new clip is above what a read of n bases allows: what 9 refuses in a file
 unfoldable pub clipsAbove : ℕ → Change → Bool
-clipsAbove n (clips a b c d) = acceptedOr (clipTest 0 n a b c d) false true
+clipsAbove n (clips quality-left quality-right adapter-left adapter-right) =
+    acceptedOr (clipTest 0 n quality-left quality-right adapter-left adapter-right) false true
 clipsAbove n (rename name) = false
 clipsAbove n remove = false
 
 -- the reads at other positions
 abbrev pub others : Correction → File → List Read
-others c f = replaced (c .position) [] (f .reads)
+others correction content = replaced (correction .position) [] (content .reads)
 
 -- one of the reads has the name
 unfoldable pub bears : List ℕ → List Read → Bool
 bears name [] = false
-bears name (x ∷ xs) = same name (x .name) || bears name xs
+bears name (read ∷ reads) = same name (read .name) || bears name reads
 
 -- one of the reads has the name that a change gives
 unfoldable pub takesName : Change → List Read → Bool
-takesName (clips a b c d) xs = false
-takesName (rename name) xs = bears name xs
-takesName remove xs = false
+takesName (clips quality-left quality-right adapter-left adapter-right) reads = false
+takesName (rename name) reads = bears name reads
+takesName remove reads = false
 
 -- "21 position not below the number of reads"
 unfoldable pub positionAbove : ℕ → Correction → File → Bool
-positionAbove room c f = not (hasTarget c f)
+positionAbove room correction content = not (hasTarget correction content)
 
 -- "22 the read there has another name"
 unfoldable pub otherName : ℕ → Correction → File → Bool
-otherName room c f = hasTarget c f && not (same (c .old-name) (target c f .name))
+otherName room correction content = hasTarget correction content && not (same (correction .old-name) (target correction content .name))
 
 -- "25 rename or remove with an index"
 unfoldable pub indexPresent : ℕ → Correction → File → Bool
-indexPresent room c f = not (isClips (c .change)) && declared (f .index .offset) (length (f .index .bytes))
+indexPresent room correction content =
+    not (isClips (correction .change)) && declared (content .index .offset) (length (content .index .bytes))
 
 -- "23 new clip above N"
 unfoldable pub clipAbove : ℕ → Correction → File → Bool
-clipAbove room c f = hasTarget c f && clipsAbove (length (target c f .bases)) (c .change)
+clipAbove room correction content =
+    hasTarget correction content && clipsAbove (length (target correction content .bases)) (correction .change)
 
 -- "24 rename to a name that another read bears"
 unfoldable pub nameBorne : ℕ → Correction → File → Bool
-nameBorne room c f = hasTarget c f && takesName (c .change) (others c f)
+nameBorne room correction content =
+    hasTarget correction content && takesName (correction .change) (others correction content)
 
 -- "26 no room" in a buffer of so many bytes for the file written afresh
 unfoldable pub noRoom : ℕ → Correction → File → Bool
-noRoom room c f = hasTarget c f && ltb room (length (layout (edited c f)))
+noRoom room correction content = hasTarget correction content && ltb room (length (layout (edited correction content)))
 
 -- in document 01's order
 abbrev pub reasonRows : ℕ → Correction → File → List Row
-reasonRows room c f =
-    (21, positionAbove room c f) ∷ (22, otherName room c f) ∷ (25, indexPresent room c f)
-    ∷ (23, clipAbove room c f) ∷ (24, nameBorne room c f) ∷ (26, noRoom room c f) ∷ []
+reasonRows room correction content =
+    (21, positionAbove room correction content) ∷ (22, otherName room correction content)
+    ∷ (25, indexPresent room correction content)
+    ∷ (23, clipAbove room correction content) ∷ (24, nameBorne room correction content)
+    ∷ (26, noRoom room correction content) ∷ []
 
 -- the first that holds
 unfoldable pub reasons : ℕ → Correction → File → Answer
-reasons room c f = firstRow (reasonRows room c f)
+reasons room correction content = firstRow (reasonRows room correction content)

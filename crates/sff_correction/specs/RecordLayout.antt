@@ -12,39 +12,44 @@ use Rattle.sff_correction.specs.Correction.{Change, clips, rename, remov
 
 -- "kind (0: 1 clips, 2 rename, 3 remove)"
 abbrev pub kindOf : Change → ℕ
-kindOf (clips a b c d) = 1
+kindOf (clips quality-left quality-right adapter-left adapter-right) = 1
 kindOf (rename name) = 2
 kindOf remove = 3
 
 -- "What a kind does not use is zero": a name in a rename alone, clips in kind 1 alone
 abbrev pub nameOf : Change → List ℕ
-nameOf (clips a b c d) = []
+nameOf (clips quality-left quality-right adapter-left adapter-right) = []
 nameOf (rename name) = name
 nameOf remove = []
 
 abbrev pub clipFields : ℕ → ℕ → ℕ → ℕ → List (ℕ × ℕ)
-clipFields a b c d = (2, a) ∷ (2, b) ∷ (2, c) ∷ (2, d) ∷ []
+clipFields quality-left quality-right adapter-left adapter-right =
+    (2, quality-left) ∷ (2, quality-right) ∷ (2, adapter-left) ∷ (2, adapter-right) ∷ []
 
 abbrev pub clipsOf : Change → List (ℕ × ℕ)
-clipsOf (clips a b c d) = clipFields a b c d
+clipsOf (clips quality-left quality-right adapter-left adapter-right) =
+    clipFields quality-left quality-right adapter-left adapter-right
 clipsOf (rename name) = clipFields 0 0 0 0
 clipsOf remove = clipFields 0 0 0 0
 
 -- "kind (0: ..), old name length (1), new name length (2), zero (3), position from 0 (4 to 7), four new clips (8 to 15,
 -- file order)"
 unfoldable pub recordFields : Correction → List (ℕ × ℕ)
-recordFields c = (1, kindOf (c .change)) ∷ (1, length (c .old-name)) ∷ (1, length (nameOf (c .change))) ∷ (1, 0) ∷ (4, c .position) ∷ clipsOf (c .change)
+recordFields correction =
+    (1, kindOf (correction .change)) ∷ (1, length (correction .old-name)) ∷ (1, length (nameOf (correction .change)))
+    ∷ (1, 0) ∷ (4, correction .position) ∷ clipsOf (correction .change)
 
 -- "old name (16 to 55), new name (56 to 95). Names .. zeros after"
 unfoldable pub layoutRecord : Correction → List ℕ
-layoutRecord c = fields (recordFields c) ++ filled 40 (c .old-name) ++ filled 40 (nameOf (c .change))
+layoutRecord correction =
+    fields (recordFields correction) ++ filled 40 (correction .old-name) ++ filled 40 (nameOf (correction .change))
 
 -- what a record's kind asks for
 unfoldable pub changeIn : List ℕ → Change
-changeIn r =
-    cond (eqb (kind r) 1) (clips (newQualityLeft r) (newQualityRight r) (newAdapterLeft r) (newAdapterRight r))
-    (cond (eqb (kind r) 2) (rename (newName r)) remove)
+changeIn «record» =
+    cond (eqb (kind «record») 1) (clips (newQualityLeft «record») (newQualityRight «record») (newAdapterLeft «record») (newAdapterRight «record»))
+    (cond (eqb (kind «record») 2) (rename (newName «record»)) remove)
 
 -- the correction that a record says
 abbrev pub parseRecord : List ℕ → Correction
-parseRecord r = record { position = position r; old-name = oldName r; change = changeIn r }
+parseRecord «record» = record { position = position «record»; old-name = oldName «record»; change = changeIn «record» }

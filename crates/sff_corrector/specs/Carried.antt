@@ -14,25 +14,25 @@ use Rattle.sff_corrector.specs.declared.Start.the-variants.{Header, Know
 
 -- the answer and the length, on a file of length `len`
 abbrev pub outcomeOf : ℕ → Carried → Outcome
-outcomeOf len (Out n i p) = record { answer = Accepted; length = n }
-outcomeOf len (Stopped n p) = record { answer = Refused n p; length = len }
+outcomeOf len (Out new position place) = record { answer = Accepted; length = new }
+outcomeOf len (Stopped number place) = record { answer = Refused number place; length = len }
 
 -- the walk to a read may start there: a mark says where one of the file's reads starts
 abbrev pub StartIn : List ℕ → Start → Type 0
-StartIn b Header = Unit {0}
-StartIn b (Known m) = Marked b m
+StartIn file Header = Unit {0}
+StartIn file (Known mark) = Marked file mark
 
--- at the read at position i, which starts at place p
+-- at the read at a position, which starts at a place
 abbrev pub knownAt : ℕ → ℕ → Start
-knownAt i p = Known (record { position = i; place = p })
+knownAt position place = Known (record { position = position; place = place })
 
--- an accepted file of n bytes stands at the front of the buffer: the next record needs no test of it
-pub record Ready (buffer : List ℕ) (n : ℕ) (from : Start) : Type 0 where
-  pub inside : n ≤ length buffer
-  pub accepted : fileTest (take n buffer) ≡ Accepted
-  pub start : StartIn (take n buffer) from
+-- an accepted file of `len` bytes stands at the front of the buffer: the next record needs no test of it
+pub record Ready (buffer : List ℕ) (len : ℕ) (from : Start) : Type 0 where
+  pub inside : len ≤ length buffer
+  pub accepted : fileTest (take len buffer) ≡ Accepted
+  pub start : StartIn (take len buffer) from
 
 -- after a record that was carried out, the buffer is ready for the next
 abbrev pub Onward : List ℕ → Carried → Type 0
-Onward buffer (Out n i p) = Ready buffer n (knownAt i p)
-Onward buffer (Stopped n p) = Unit {0}
+Onward buffer (Out new position place) = Ready buffer new (knownAt position place)
+Onward buffer (Stopped number place) = Unit {0}

@@ -54,9 +54,9 @@ fn find_from(s: &[u8], from: Start, position: usize) -> usize
 fn carry_out(buffer: &mut [u8], len: usize, record: &[u8], from: Start) -> Carried
     requires { ⌜ Ready (now buffer) len from ⌝ }
     requires { ⌜ recordTest (now «record») ≡ Accepted ⌝ }
-    ensures { λ v. ⌜ outcomeOf len v ≡ correctOutcome (now (buffer .entry)) len (now («record» .entry)) ⌝ }
-    ensures { λ v. ⌜ now (buffer .exit) ≡ correctBuffer (now (buffer .entry)) len (now («record» .entry)) ⌝ }
-    ensures { λ v. ⌜ Onward (now (buffer .exit)) v ⌝ }
+    ensures { λ r. ⌜ outcomeOf len r ≡ correctOutcome (now (buffer .entry)) len (now («record» .entry)) ⌝ }
+    ensures { λ r. ⌜ now (buffer .exit) ≡ correctBuffer (now (buffer .entry)) len (now («record» .entry)) ⌝ }
+    ensures { λ r. ⌜ Onward (now (buffer .exit)) r ⌝ }
 {
     let room = buffer.len();
     let fields = record_fields(record);
@@ -75,9 +75,9 @@ fn carry_out(buffer: &mut [u8], len: usize, record: &[u8], from: Start) -> Carri
 
 // A record on a file that was not tested yet: the length (14), the record (20), the file's refusal, and the rest.
 fn carry_first(buffer: &mut [u8], len: usize, record: &[u8]) -> Carried
-    ensures { λ v. ⌜ outcomeOf len v ≡ correctOutcome (now (buffer .entry)) len (now («record» .entry)) ⌝ }
-    ensures { λ v. ⌜ now (buffer .exit) ≡ correctBuffer (now (buffer .entry)) len (now («record» .entry)) ⌝ }
-    ensures { λ v. ⌜ Onward (now (buffer .exit)) v ⌝ }
+    ensures { λ r. ⌜ outcomeOf len r ≡ correctOutcome (now (buffer .entry)) len (now («record» .entry)) ⌝ }
+    ensures { λ r. ⌜ now (buffer .exit) ≡ correctBuffer (now (buffer .entry)) len (now («record» .entry)) ⌝ }
+    ensures { λ r. ⌜ Onward (now (buffer .exit)) r ⌝ }
 {
     if len > buffer.len() {
         return Carried::Stopped(14, 0);
@@ -102,9 +102,9 @@ fn carry_next(
 ) -> Carried
     requires { ⌜ Ready (now buffer) len (knownAt position place) ⌝ }
     requires { ⌜ at + 96 ≤ length (now list) ⌝ }
-    ensures { λ v. ⌜ outcomeOf len v ≡ correctOutcome (now (buffer .entry)) len (part at 96 (now (list .entry))) ⌝ }
-    ensures { λ v. ⌜ now (buffer .exit) ≡ correctBuffer (now (buffer .entry)) len (part at 96 (now (list .entry))) ⌝ }
-    ensures { λ v. ⌜ Onward (now (buffer .exit)) v ⌝ }
+    ensures { λ r. ⌜ outcomeOf len r ≡ correctOutcome (now (buffer .entry)) len (part at 96 (now (list .entry))) ⌝ }
+    ensures { λ r. ⌜ now (buffer .exit) ≡ correctBuffer (now (buffer .entry)) len (part at 96 (now (list .entry))) ⌝ }
+    ensures { λ r. ⌜ Onward (now (buffer .exit)) r ⌝ }
 {
     let end = at + 96;
     if let Answer::Refused(number, place) = record_test(&list[at..end]) {
@@ -126,7 +126,7 @@ fn run(
 ) -> ListOutcome
     requires { ⌜ Ready (now buffer) len (knownAt first start) ⌝ }
     requires { ⌜ (1 ≤ n) × (96 * n ≤ length (now list)) ⌝ }
-    ensures { λ v. ⌜ v ≡ turns (n - 1) 1 (now (buffer .entry)) len (now (list .entry)) .outcome ⌝ }
+    ensures { λ r. ⌜ r ≡ turns (n - 1) 1 (now (buffer .entry)) len (now (list .entry)) .outcome ⌝ }
     ensures { λ _. ⌜ now (buffer .exit) ≡ turns (n - 1) 1 (now (buffer .entry)) len (now (list .entry)) .buffer ⌝ }
 {
     let mut count = 1;
@@ -161,7 +161,7 @@ fn run(
 // Corrects the file that fills the first `file_length` bytes of the buffer by one record. Answers the file's length
 // afterwards; refused, the length that was given, with the buffer as it was.
 pub fn correct(buffer: &mut [u8], file_length: usize, record: &[u8]) -> Outcome
-    ensures { λ v. ⌜ v ≡ correctOutcome (now (buffer .entry)) «file_length» (now («record» .entry)) ⌝ }
+    ensures { λ r. ⌜ r ≡ correctOutcome (now (buffer .entry)) «file_length» (now («record» .entry)) ⌝ }
     ensures { λ _. ⌜ now (buffer .exit) ≡ correctBuffer (now (buffer .entry)) «file_length» (now («record» .entry)) ⌝ }
 {
     let carried = carry_first(buffer, file_length, record);
@@ -180,7 +180,7 @@ pub fn correct(buffer: &mut [u8], file_length: usize, record: &[u8]) -> Outcome
 // Corrects the file by the records of a list in turn, up to the first that is refused. Answers how many were carried
 // out, and what the last record tried was answered.
 pub fn correct_list(buffer: &mut [u8], file_length: usize, list: &[u8]) -> ListOutcome
-    ensures { λ v. ⌜ v ≡ runList (now (buffer .entry)) «file_length» (now (list .entry)) .outcome ⌝ }
+    ensures { λ r. ⌜ r ≡ runList (now (buffer .entry)) «file_length» (now (list .entry)) .outcome ⌝ }
     ensures { λ _. ⌜ now (buffer .exit) ≡ runList (now (buffer .entry)) «file_length» (now (list .entry)) .buffer ⌝ }
 {
     if list.len() % 96 != 0 {

@@ -1,4 +1,4 @@
--- What each edit in place writes, in bytes: p is the place of the read, len the file's length in the buffer b.
+-- What each edit in place writes, in bytes: `place` is the read's, `len` the file's length in the buffer.
 -- Assumes nothing: these are definitions.
 use Prim.Native.Nat.{ℕ, _+_, _-_}
 use mathlib.Core.List.{List, [], _++_}
@@ -14,11 +14,11 @@ use Rattle.sff_correction.specs.Edit.{edited}
 
 -- the file as a correction leaves it, written afresh
 abbrev pub afresh : Correction → ℕ → List ℕ → List ℕ
-afresh c len b = layout (edited c (parse (take len b)))
+afresh correction len buffer = layout (edited correction (parse (take len buffer)))
 
 -- the four new clips, in file order, over the old ones
 abbrev pub clippedAt : ℕ → List ℕ → List ℕ → List ℕ
-clippedAt p clips b = putAt (p + 8) clips b
+clippedAt place clips buffer = putAt (place + 8) clips buffer
 
 -- how many bytes a name of n bytes takes with its padding
 abbrev pub nameRoom : ℕ → ℕ
@@ -27,9 +27,10 @@ nameRoom n = up8 (16 + n) - 16
 -- a new name of n bytes with its padding, which its field has too, in the place of the old one with its own; then the
 -- two lengths that precede it
 unfoldable pub renamedAt : ℕ → ℕ → ℕ → List ℕ → List ℕ → List ℕ
-renamedAt p len n field b =
-    putAt p (bytesOf 2 (up8 (16 + n)) ++ bytesOf 2 n) (spliced (p + 16) (sectionLength b p - 16) len (take (nameRoom n) field) b)
+renamedAt place len n field buffer =
+    putAt place (bytesOf 2 (up8 (16 + n)) ++ bytesOf 2 n)
+    (spliced (place + 16) (sectionLength buffer place - 16) len (take (nameRoom n) field) buffer)
 
 -- the read of `size` bytes cut out, and counted no more
 unfoldable pub removedAt : ℕ → ℕ → ℕ → List ℕ → List ℕ
-removedAt p size len b = putAt 20 (bytesOf 4 (readCount b - 1)) (spliced p size len [] b)
+removedAt place size len buffer = putAt 20 (bytesOf 4 (readCount buffer - 1)) (spliced place size len [] buffer)

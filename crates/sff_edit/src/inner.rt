@@ -40,7 +40,7 @@ fn put_name(buffer: &mut [u8], len: usize, p: usize, n: usize, field: &[u8]) -> 
     requires { ⌜ (16 ≤ sectionLength (now buffer) p) × (p + sectionLength (now buffer) p ≤ len) × (len ≤ length (now buffer)) ⌝ }
     requires { ⌜ (length (now field) ≡ 40) × (n ≤ 40) ⌝ }
     requires { ⌜ len + up8 (16 + n) ≤ length (now buffer) + sectionLength (now buffer) p ⌝ }
-    ensures { λ v. ⌜ v ≡ len - sectionLength (now (buffer .entry)) p + up8 (16 + n) ⌝ }
+    ensures { λ r. ⌜ r ≡ len - sectionLength (now (buffer .entry)) p + up8 (16 + n) ⌝ }
     ensures { λ _. ⌜ now (buffer .exit) ≡ renamedAt p len n (now (field .entry)) (now (buffer .entry)) ⌝ }
 {
     let old_section = get16(buffer, p);
@@ -63,7 +63,7 @@ fn put_name(buffer: &mut [u8], len: usize, p: usize, n: usize, field: &[u8]) -> 
 fn take_out(buffer: &mut [u8], len: usize, p: usize, size: usize) -> usize
     requires { ⌜ (24 ≤ length (now buffer)) × (p + size ≤ len) × (len ≤ length (now buffer)) ⌝ }
     requires { ⌜ 1 ≤ readCount (now buffer) ⌝ }
-    ensures { λ v. ⌜ v ≡ len - size ⌝ }
+    ensures { λ r. ⌜ r ≡ len - size ⌝ }
     ensures { λ _. ⌜ now (buffer .exit) ≡ removedAt p size len (now (buffer .entry)) ⌝ }
 {
     let reads = get32(buffer, 20);
@@ -81,7 +81,7 @@ pub fn apply(buffer: &mut [u8], len: usize, place: usize, fields: Fields, record
     requires { ⌜ FieldsOf fields (now «record») ⌝ }
     requires { ⌜ place ≡ readPlace (take len (now buffer)) (fields .position) ⌝ }
     requires { ⌜ reasons (length (now buffer)) (asked fields (now «record»)) (parse (take len (now buffer))) ≡ Accepted ⌝ }
-    ensures { λ v. ⌜ v ≡ length (afresh (asked fields (now («record» .entry))) len (now (buffer .entry))) ⌝ }
+    ensures { λ r. ⌜ r ≡ length (afresh (asked fields (now («record» .entry))) len (now (buffer .entry))) ⌝ }
     ensures { λ _. ⌜ now (buffer .exit) ≡ over (afresh (asked fields (now («record» .entry))) len (now (buffer .entry))) len (now (buffer .entry)) ⌝ }
 {
     let kind = fields.kind;

@@ -7,5 +7,5 @@ use Rattle.sff_format.specs.Places.{readPlace}
 use Rattle.sff_find.specs.declared.inner.Mark.{Mark}
 
 -- the mark's read, if the file has it, starts at the mark's place
-pub record Marked (b : List ℕ) (m : Mark) : Type 0 where
-  pub known : m .position < readCount b → m .place ≡ readPlace b (m .position)
+pub record Marked (file : List ℕ) (mark : Mark) : Type 0 where
+  pub known : mark .position < readCount file → mark .place ≡ readPlace file (mark .position)

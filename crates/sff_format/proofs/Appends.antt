@@ -105,12 +105,12 @@ pub no-index-read : (b : List ℕ) → declared (indexOffset b) (indexLength b) 
 unfolding parse
 no-index-read b d = let u = undeclared (indexOffset b) (indexLength b) d in λ j. record { offset = u .0 j; bytes = part (u .0 j) (u .1 j) b }
 
-module _ (buffer : List ℕ) (len : ℕ) (r : Read) (y : Bytes (take len buffer)) (a : appendTest buffer len r ≡ Accepted) where
+module _ (buffer : List ℕ) (len : ℕ) (read : Read) (y : Bytes (take len buffer)) (a : appendTest buffer len read ≡ Accepted) where
   abbrev old : List ℕ
   old = take len buffer
 
-  c : Carried buffer len r
-  c = carried buffer len r a
+  c : Carried buffer len read
+  c = carried buffer len read a
 
   length-old : length old ≡ len
   length-old = length-take-le len buffer (c .stated)
@@ -124,23 +124,25 @@ module _ (buffer : List ℕ) (len : ℕ) (r : Read) (y : Bytes (take len buffer)
   laid = ap layout (is-plain (parse old) (no-index-read old (c .no-index))) ∙ file-laid old y (c .accepted)
 
   -- without an index the model is as the new file's, with reads
-  same-model : withReads (parse old .reads ++ (r ∷ [])) (parse old) ≡ plain (flowCharacters old) (keyCharacters old) (parse old .reads ++ (r ∷ []))
+  same-model : withReads (parse old .reads ++ (read ∷ [])) (parse old)
+      ≡ plain (flowCharacters old) (keyCharacters old) (parse old .reads ++ (read ∷ []))
   unfolding parse
-  same-model = λ j. record { flow-characters = flowCharacters old; key = keyCharacters old; index = no-index-read old (c .no-index) j; reads = parse old .reads ++ (r ∷ []) }
+  same-model = λ j. record { flow-characters = flowCharacters old; key = keyCharacters old; index = no-index-read old (c .no-index) j; reads = parse old .reads ++ (read ∷ []) }
 
-  pub append-afresh : appendBuffer buffer len r ≡ putAt 0 (layout (withReads (parse old .reads ++ (r ∷ [])) (parse old))) buffer
+  pub append-afresh : appendBuffer buffer len read
+      ≡ putAt 0 (layout (withReads (parse old .reads ++ (read ∷ [])) (parse old))) buffer
   append-afresh =
-      let put = appended-in (flowCharacters old) (keyCharacters old) (parse old .reads) r buffer (rw (laid, length-old) (c .stated)) in
-      append-left buffer len r a ∙ (rw (laid, length-old, itself, reads-counted old) at put) ∙ rw same-model
+      let put = appended-in (flowCharacters old) (keyCharacters old) (parse old .reads) read buffer (rw (laid, length-old) (c .stated)) in
+      append-left buffer len read a ∙ (rw (laid, length-old, itself, reads-counted old) at put) ∙ rw same-model
 
   -- and that file keeps the rules
-  pub append-valid : Lent r → Valid (withReads (parse old .reads ++ (r ∷ [])) (parse old))
+  pub append-valid : Lent read → Valid (withReads (parse old .reads ++ (read ∷ [])) (parse old))
   unfolding parse
   append-valid t =
       let v = file-valid old y (c .accepted) in
       let n = v .count-fits in
       let b = c .below in
-      let l : length (parse old .reads ++ (r ∷ [])) ≡ length (parse old .reads) + 1 = length-append (parse old .reads) (r ∷ []) in
+      let l : length (parse old .reads ++ (read ∷ [])) ≡ length (parse old .reads) + 1 = length-append (parse old .reads) (read ∷ []) in
       rw same-model
-      (plain-valid (flowCharacters old) (keyCharacters old) (parse old .reads ++ (r ∷ [])) (v .characters-good) (v .header-fits) (omega (arith, n, l, reads-counted old, b))
-      (valid-append (flowCharacters old) (parse old .reads) (r ∷ []) (v .reads-good) (given-valid (flowCharacters old) r t (c .given), tt)))
+      (plain-valid (flowCharacters old) (keyCharacters old) (parse old .reads ++ (read ∷ [])) (v .characters-good) (v .header-fits) (omega (arith, n, l, reads-counted old, b))
+      (valid-append (flowCharacters old) (parse old .reads) (read ∷ []) (v .reads-good) (given-valid (flowCharacters old) read t (c .given), tt)))

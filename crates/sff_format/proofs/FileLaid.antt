@@ -160,93 +160,99 @@ module _ (b : List ℕ) (y : Bytes b) (head : headerTest b ≡ Accepted) where
             pending-read n p g l e (more (readEnd (flows b) b p) (here-next n p g l e) (second-ok _ _ (here-read n p g l e)))
 
 -- an accepted file's header and boundaries are accepted
-pub head-ok : (b : List ℕ) → fileTest b ≡ Accepted → headerTest b ≡ Accepted
+pub head-ok : (file : List ℕ) → fileTest file ≡ Accepted → headerTest file ≡ Accepted
 unfolding fileTest
-head-ok b e = first-ok _ _ e
+head-ok file e = first-ok _ _ e
 
 pub sections-ok : (b : List ℕ) → fileTest b ≡ Accepted → boundaryTest b (readCount b) (headerLength b) false ≡ Accepted
 unfolding fileTest
 sections-ok b e = second-ok _ _ e
 
-module _ (b : List ℕ) (y : Bytes b) (e : fileTest b ≡ Accepted) where
+module _ (file : List ℕ) (y : Bytes file) (e : fileTest file ≡ Accepted) where
   rs : List Read
-  rs = parseReads b (readCount b) (headerLength b) false
+  rs = parseReads file (readCount file) (headerLength file) false
 
   -- where the index is, and what the sections are
   record Sections : Type 0 where
-    passed : passTest b (indexOffset b) ≡ Accepted
-    at : insertAt (indexOffset b) (layoutIndex (indexOf b)) (layoutHeader (parse b) ++ layoutReads rs) ≡ layoutHeader (parse b) ++ drop (headerLength b) b
-    good : ValidReads (flowCharacters b) rs
-    met : declared (indexOffset b) (indexLength b) ≡ true → (k : ℕ) × (indexOffset b ≡ headerLength b + length (layoutReads (take k rs)))
+    passed : passTest file (indexOffset file) ≡ Accepted
+    at : insertAt (indexOffset file) (layoutIndex (indexOf file)) (layoutHeader (parse file) ++ layoutReads rs)
+        ≡ layoutHeader (parse file) ++ drop (headerLength file) file
+    good : ValidReads (flowCharacters file) rs
+    met : declared (indexOffset file) (indexLength file) ≡ true
+        → (k : ℕ) × (indexOffset file ≡ headerLength file + length (layoutReads (take k rs)))
 
-  pub header-size : length (layoutHeader (parse b)) ≡ headerLength b
+  pub header-size : length (layoutHeader (parse file)) ≡ headerLength file
   unfolding parse
   header-size =
-      let lc = characters-length b (head-ok b e) in
-      let lk = key-length b (head-ok b e) in
-      let s = header-sized b (head-ok b e) in
-      length-header (parse b) ∙ rw (lc, lk) (sym s)
+      let lc = characters-length file (head-ok file e) in
+      let lk = key-length file (head-ok file e) in
+      let s = header-sized file (head-ok file e) in
+      length-header (parse file) ∙ rw (lc, lk) (sym s)
 
-  sections : (t : Bool) → declared (indexOffset b) (indexLength b) ≡ t → Sections
+  sections : (t : Bool) → declared (indexOffset file) (indexLength file) ≡ t → Sections
   unfolding rs
   sections true d =
-      let p = pending-laid b y (head-ok b e) d (readCount b) (headerLength b) (header-fits b (head-ok b e)) (sections-ok b e) in
-      let m : indexOffset b ≡ headerLength b + length (layoutReads (take (p .k) rs)) = p .met in
+      let p = pending-laid file y (head-ok file e) d (readCount file) (headerLength file) (header-fits file (head-ok file e)) (sections-ok file e) in
+      let m : indexOffset file ≡ headerLength file + length (layoutReads (take (p .k) rs)) = p .met in
       let s = header-size in
-      let o : indexOffset b ≡ length (layoutHeader (parse b)) + (indexOffset b - headerLength b) = omega arith in
+      let o : indexOffset file ≡ length (layoutHeader (parse file)) + (indexOffset file - headerLength file) = omega arith in
       record {
         passed = p .passed;
-        at = ap (λ (n : ℕ). insertAt n (layoutIndex (indexOf b)) (layoutHeader (parse b) ++ layoutReads rs)) o ∙ rw (insert-right, p .is);
+        at =
+            ap (λ (n : ℕ). insertAt n (layoutIndex (indexOf file)) (layoutHeader (parse file) ++ layoutReads rs)) o
+            ∙ rw (insert-right, p .is);
         good = p .good;
         met = λ _. (p .k, p .met);
       }
   sections false d =
-      let u = undeclared (indexOffset b) (indexLength b) d in
-      let o : indexOffset b ≡ 0 = u .0 in
-      let l : indexLength b ≡ 0 = u .1 in
-      let done : Done b false = rw d in
-      let p = plain-laid b y (head-ok b e) (readCount b) (headerLength b) false done (header-fits b (head-ok b e)) (sections-ok b e) in
+      let u = undeclared (indexOffset file) (indexLength file) d in
+      let o : indexOffset file ≡ 0 = u .0 in
+      let l : indexLength file ≡ 0 = u .1 in
+      let done : Done file false = rw d in
+      let p = plain-laid file y (head-ok file e) (readCount file) (headerLength file) false done (header-fits file (head-ok file e)) (sections-ok file e) in
       record {
-        passed = index-taken b (indexOffset b) noIndex (sym l) (rw o (omega arith)) (rw layout-none);
+        passed = index-taken file (indexOffset file) noIndex (sym l) (rw o (omega arith)) (rw layout-none);
         at = rw (o, l, layout-none, insert-zero) (rw (p .0));
         good = p .1;
         met = λ f. absurd (let z : _≡_ {A = ℕ} 0 1 = cc in let a : ⊥ = omega arith in a);
       }
 
   all : Sections
-  all = sections (declared (indexOffset b) (indexLength b)) refl
+  all = sections (declared (indexOffset file) (indexLength file)) refl
 
-  pub index-passed : passTest b (indexOffset b) ≡ Accepted
+  pub index-passed : passTest file (indexOffset file) ≡ Accepted
   index-passed = all .passed
 
-  header-stands : Stands 0 (layoutHeader (parse b)) b
+  header-stands : Stands 0 (layoutHeader (parse file)) file
   unfolding parse
   header-stands =
-      header-laid b (head-ok b e) y (parse b) refl refl refl (index-length b (all .passed)) (length-parsed b (readCount b) (headerLength b) false)
+      header-laid file (head-ok file e) y (parse file) refl refl refl (index-length file (all .passed))
+      (length-parsed file (readCount file) (headerLength file) false)
 
-  header-whole : layoutHeader (parse b) ++ drop (headerLength b) b ≡ b
-  header-whole = rw (zero-add, header-size) at (stands-drop 0 (layoutHeader (parse b)) b header-stands)
+  header-whole : layoutHeader (parse file) ++ drop (headerLength file) file ≡ file
+  header-whole = rw (zero-add, header-size) at (stands-drop 0 (layoutHeader (parse file)) file header-stands)
 
   -- LAW a: an accepted file is the layout of what it says
-  pub file-laid : layout (parse b) ≡ b
+  pub file-laid : layout (parse file) ≡ file
   unfolding layout parse rs
   file-laid = all .at ∙ header-whole
 
-  pub file-valid : Valid (parse b)
+  pub file-valid : Valid (parse file)
   unfolding parse rs
   file-valid =
-      let t = fits-31 b (head-ok b e) in
-      let lc : length (flowCharacters b) ≡ flows b = characters-length b (head-ok b e) in
-      let lk : length (part (31 + flows b) (keyLength b) b) ≡ keyLength b = key-length b (head-ok b e) in
-      let li : length (part (indexOffset b) (indexLength b) b) ≡ indexLength b = index-length b (all .passed) in
-      let s = header-sized b (head-ok b e) in
+      let t = fits-31 file (head-ok file e) in
+      let lc : length (flowCharacters file) ≡ flows file = characters-length file (head-ok file e) in
+      let lk : length (part (31 + flows file) (keyLength file) file) ≡ keyLength file = key-length file (head-ok file e) in
+      let li : length (part (indexOffset file) (indexLength file) file) ≡ indexLength file = index-length file (all .passed) in
+      let s = header-sized file (head-ok file e) in
       let z = header-size in
       record {
-        characters-good = characters-good b (head-ok b e);
-        header-fits = rw (lc, lk, ← s) (number-small 2 24 b y (omega arith));
-        count-fits = rw (length-parsed b (readCount b) (headerLength b) false) (number-small 4 20 b y (omega arith));
-        index-fits = (number-small 8 8 b y (omega arith), rw li (number-small 4 16 b y (omega arith)), bytes-part (indexOffset b) (indexLength b) b y);
-        index-good = rw li (index-good b (head-ok b e));
+        characters-good = characters-good file (head-ok file e);
+        header-fits = rw (lc, lk, ← s) (number-small 2 24 file y (omega arith));
+        count-fits =
+            rw (length-parsed file (readCount file) (headerLength file) false) (number-small 4 20 file y (omega arith));
+        index-fits = (number-small 8 8 file y (omega arith), rw li (number-small 4 16 file y (omega arith)), bytes-part (indexOffset file) (indexLength file) file y);
+        index-good = rw li (index-good file (head-ok file e));
         index-met = rw li (λ d. (all .met d .0, rw z (all .met d .1)));
         reads-good = all .good;
       }

@@ -105,122 +105,130 @@ module _ (b : List ℕ) (head : headerTest b ≡ Accepted) where
         read-on r rs p false (here-not b p false n) (v .0) l s
         (pending-taken k rs (p + length one) (omega arith) (v .1) (stands-fits p one b s l) (drop-rest p one _ b a))
 
-module _ (f : File) (v : Valid f) where
+module _ (content : File) (v : Valid content) where
   -- what follows the header
   after : Bool → List ℕ
-  after true = insertAt (f .index .offset - length (layoutHeader f)) (layoutIndex (f .index)) (layoutReads (f .reads))
-  after false = layoutReads (f .reads)
+  after true =
+      insertAt (content .index .offset - length (layoutHeader content)) (layoutIndex (content .index))
+      (layoutReads (content .reads))
+  after false = layoutReads (content .reads)
 
   record Shape (t : Bool) : Type 0 where
-    inside : f .index .offset ≤ length (layoutHeader f ++ layoutReads (f .reads))
-    is : layout f ≡ layoutHeader f ++ after t
+    inside : content .index .offset ≤ length (layoutHeader content ++ layoutReads (content .reads))
+    is : layout content ≡ layoutHeader content ++ after t
 
-  shape : (t : Bool) → declared (f .index .offset) (length (f .index .bytes)) ≡ t → Shape t
+  shape : (t : Bool) → declared (content .index .offset) (length (content .index .bytes)) ≡ t → Shape t
   unfolding layout after
   shape true d =
       let m = v .index-met d in
       let e = m .1 in
-      let g = front-le (m .0) (f .reads) in
-      let o : f .index .offset ≡ length (layoutHeader f) + (f .index .offset - length (layoutHeader f)) = omega arith in
+      let g = front-le (m .0) (content .reads) in
+      let o : content .index .offset ≡ length (layoutHeader content) + (content .index .offset - length (layoutHeader content)) = omega arith in
       record {
         inside = rw length-append (omega arith);
-        is = ap (λ (n : ℕ). insertAt n (layoutIndex (f .index)) (layoutHeader f ++ layoutReads (f .reads))) o ∙ rw insert-right;
+        is = ap (λ (n : ℕ). insertAt n (layoutIndex (content .index)) (layoutHeader content ++ layoutReads (content .reads))) o ∙ rw insert-right;
       }
   shape false d =
-      let u = undeclared (f .index .offset) (length (f .index .bytes)) d in
-      let o : f .index .offset ≡ 0 = u .0 in
-      let n : f .index .bytes ≡ [] = none (f .index .bytes) (u .1) in
-      let x : layoutIndex (f .index) ≡ [] = layout-empty (f .index) n in
+      let u = undeclared (content .index .offset) (length (content .index .bytes)) d in
+      let o : content .index .offset ≡ 0 = u .0 in
+      let n : content .index .bytes ≡ [] = none (content .index .bytes) (u .1) in
+      let x : layoutIndex (content .index) ≡ [] = layout-empty (content .index) n in
       record { inside = rw o (omega arith); is = rw (x, o, insert-zero) }
     where
       none : (l : List ℕ) → length l ≡ 0 → l ≡ []
       none [] e = refl
       none (x ∷ l) e = absurd (omega arith)
 
-  module _ (t : Bool) (d : declared (f .index .offset) (length (f .index .bytes)) ≡ t) where
+  module _ (t : Bool) (d : declared (content .index .offset) (length (content .index .bytes)) ≡ t) where
     b : List ℕ
-    b = layout f
+    b = layout content
 
-    split : drop 0 (layout f) ≡ layoutHeader f ++ after t
+    split : drop 0 (layout content) ≡ layoutHeader content ++ after t
     split = shape t d .is
 
-    header-stands : Stands 0 (layoutHeader f) (layout f)
-    header-stands = drop-stands 0 (layoutHeader f) (after t) (layout f) split
+    header-stands : Stands 0 (layoutHeader content) (layout content)
+    header-stands = drop-stands 0 (layoutHeader content) (after t) (layout content) split
 
-    header-ok : headerTest (layout f) ≡ Accepted
-    header-ok = header-taken (layout f) f v header-stands
+    header-ok : headerTest (layout content) ≡ Accepted
+    header-ok = header-taken (layout content) content v header-stands
 
-    size-is : headerLength (layout f) ≡ length (layoutHeader f)
-    size-is = header-length-is (layout f) f v header-stands ∙ sym (length-header f)
+    size-is : headerLength (layout content) ≡ length (layoutHeader content)
+    size-is = header-length-is (layout content) content v header-stands ∙ sym (length-header content)
 
-    rest-is : drop (length (layoutHeader f)) (layout f) ≡ after t
-    rest-is = rw zero-add at (drop-rest 0 (layoutHeader f) (after t) (layout f) split)
+    rest-is : drop (length (layoutHeader content)) (layout content) ≡ after t
+    rest-is = rw zero-add at (drop-rest 0 (layoutHeader content) (after t) (layout content) split)
 
-    header-in : length (layoutHeader f) ≤ length (layout f)
-    header-in = rw zero-add at (stands-fits 0 (layoutHeader f) (layout f) header-stands (omega arith))
+    header-in : length (layoutHeader content) ≤ length (layout content)
+    header-in = rw zero-add at (stands-fits 0 (layoutHeader content) (layout content) header-stands (omega arith))
 
-    reads-good : ValidReads (flowCharacters (layout f)) (f .reads)
-    reads-good = rw (characters-are (layout f) f v header-stands) (v .reads-good)
+    reads-good : ValidReads (flowCharacters (layout content)) (content .reads)
+    reads-good = rw (characters-are (layout content) content v header-stands) (v .reads-good)
 
-    offset : indexOffset (layout f) ≡ f .index .offset
-    offset = offset-is (layout f) f v header-stands
+    offset : indexOffset (layout content) ≡ content .index .offset
+    offset = offset-is (layout content) content v header-stands
 
-    index-length : indexLength (layout f) ≡ length (f .index .bytes)
-    index-length = index-length-is (layout f) f v header-stands
+    index-length : indexLength (layout content) ≡ length (content .index .bytes)
+    index-length = index-length-is (layout content) content v header-stands
 
-  sections : (t : Bool) → declared (f .index .offset) (length (f .index .bytes)) ≡ t
-      → (boundaryTest (layout f) (length (f .reads)) (length (layoutHeader f)) false ≡ Accepted) × (parseReads (layout f) (length (f .reads)) (length (layoutHeader f)) false ≡ f .reads)
+  sections : (t : Bool) → declared (content .index .offset) (length (content .index .bytes)) ≡ t
+      → (boundaryTest (layout content) (length (content .reads)) (length (layoutHeader content)) false ≡ Accepted)
+      × (parseReads (layout content) (length (content .reads)) (length (layoutHeader content)) false ≡ content .reads)
   unfolding after
   sections true d =
       let o = offset true d in
       let l = index-length true d in
-      pending-taken (layout f) (header-ok true d) (rw (o, l) d) (f .index) (sym l)
-      (v .index-met d .0) (f .reads) (length (layoutHeader f)) (o ∙ v .index-met d .1) (reads-good true d) (header-in true d)
+      pending-taken (layout content) (header-ok true d) (rw (o, l) d) (content .index) (sym l)
+      (v .index-met d .0) (content .reads) (length (layoutHeader content)) (o ∙ v .index-met d .1) (reads-good true d)
+      (header-in true d)
       (rw o (rest-is true d))
   sections false d =
       let o = offset false d in
       let l = index-length false d in
-      plain-taken (layout f) (header-ok false d) (f .reads) (length (layoutHeader f)) false (rw (o, l, d)) (reads-good false d) (header-in false d) (rest-is false d)
+      plain-taken (layout content) (header-ok false d) (content .reads) (length (layoutHeader content)) false
+      (rw (o, l, d)) (reads-good false d) (header-in false d) (rest-is false d)
 
   t : Bool
-  t = declared (f .index .offset) (length (f .index .bytes))
+  t = declared (content .index .offset) (length (content .index .bytes))
 
-  pub header-first : Stands 0 (layoutHeader f) (layout f)
+  pub header-first : Stands 0 (layoutHeader content) (layout content)
   unfolding t
   header-first = header-stands t refl
 
   -- LAW b: the layout of a file that keeps the rules is accepted
-  pub file-taken : fileTest (layout f) ≡ Accepted
+  pub file-taken : fileTest (layout content) ≡ Accepted
   unfolding fileTest t
   file-taken =
       both-ok _ _ (header-ok t refl)
-      (rw (count-is (layout f) f v header-first, size-is t refl) (sections t refl .0))
+      (rw (count-is (layout content) content v header-first, size-is t refl) (sections t refl .0))
 
-  index-stands : Stands (f .index .offset) (layoutIndex (f .index)) (layout f)
+  index-stands : Stands (content .index .offset) (layoutIndex (content .index)) (layout content)
   unfolding layout t
-  index-stands = insert-stands (f .index .offset) (layoutIndex (f .index)) (layoutHeader f ++ layoutReads (f .reads)) (shape t refl .inside)
+  index-stands =
+      insert-stands (content .index .offset) (layoutIndex (content .index))
+      (layoutHeader content ++ layoutReads (content .reads)) (shape t refl .inside)
 
-  offset-in : f .index .offset ≤ length (layout f)
+  offset-in : content .index .offset ≤ length (layout content)
   unfolding layout t
   offset-in =
       let i = shape t refl .inside in
-      rw (length-insert (f .index .offset) (layoutIndex (f .index)) (layoutHeader f ++ layoutReads (f .reads))) (omega arith)
+      rw (length-insert (content .index .offset) (layoutIndex (content .index)) (layoutHeader content ++ layoutReads (content .reads))) (omega arith)
 
-  index-back : part (indexOffset (layout f)) (indexLength (layout f)) (layout f) ≡ f .index .bytes
+  index-back : part (indexOffset (layout content)) (indexLength (layout content)) (layout content)
+      ≡ content .index .bytes
   unfolding layoutIndex filled
   index-back =
-      rw (offset-is (layout f) f v header-first, index-length-is (layout f) f v header-first)
-      (stands-left (f .index .offset) (f .index .bytes) _ (layout f) offset-in index-stands)
+      rw (offset-is (layout content) content v header-first, index-length-is (layout content) content v header-first)
+      (stands-left (content .index .offset) (content .index .bytes) _ (layout content) offset-in index-stands)
 
   -- and read back
-  pub file-back : parse (layout f) ≡ f
+  pub file-back : parse (layout content) ≡ content
   unfolding parse t
   file-back = rw (
-    count-is (layout f) f v header-first,
+    count-is (layout content) content v header-first,
     size-is t refl,
     sections t refl .1,
     index-back,
-    offset-is (layout f) f v header-first,
-    characters-are (layout f) f v header-first,
-    key-is (layout f) f v header-first,
+    offset-is (layout content) content v header-first,
+    characters-are (layout content) content v header-first,
+    key-is (layout content) content v header-first,
   )

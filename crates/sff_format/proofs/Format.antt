@@ -14,12 +14,13 @@ use Rattle.sff_format.proofs.FileLaid.{file-laid, file-valid}
 use Rattle.sff_format.proofs.FileTaken.{file-taken, file-back}
 
 -- accepted exactly: some file that keeps the rules is written so
-pub accepted : (b : List ℕ) → (Bytes b × (fileTest b ≡ Accepted)) ↔ ((f : File) × Valid f × (layout f ≡ b))
-accepted b = (
-  (λ t. (parse b, file-valid b (t .0) (t .1), file-laid b (t .0) (t .1))),
+pub accepted : (file : List ℕ)
+    → (Bytes file × (fileTest file ≡ Accepted)) ↔ ((content : File) × Valid content × (layout content ≡ file))
+accepted file = (
+  (λ t. (parse file, file-valid file (t .0) (t .1), file-laid file (t .0) (t .1))),
   (λ t. (rw (← t .2) (layout-bytes (t .0) (t .1)), ap fileTest (sym (t .2)) ∙ file-taken (t .0) (t .1))),
 )
 
 -- and only one
-pub one-file : (f g : File) → Valid f → Valid g → layout f ≡ layout g → f ≡ g
-one-file f g v w e = sym (file-back f v) ∙ ap parse e ∙ file-back g w
+pub one-file : (content other : File) → Valid content → Valid other → layout content ≡ layout other → content ≡ other
+one-file content other v w e = sym (file-back content v) ∙ ap parse e ∙ file-back other w

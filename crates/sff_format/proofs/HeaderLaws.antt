@@ -20,101 +20,104 @@ use Rattle.answers.proofs.Answers.{first-ok, second-ok, both-ok, when-ok, ok-wh
 use Rattle.sff_format.proofs.Sizes.{length-header}
 use Rattle.octets.proofs.Stands.{Stands, Numbers, part-two, read-stands, stands-read, stands-both, stands-left, stands-right, stands-fits, filled-stands, stands-filled, length-fields, fields-stand, stand-fields}
 
-module _ (b : List ℕ) (e : headerTest b ≡ Accepted) where
-  pub fits-31 : 31 ≤ length b
+module _ (file : List ℕ) (e : headerTest file ≡ Accepted) where
+  pub fits-31 : 31 ≤ length file
   unfolding headerTest
   fits-31 = under-ok _ _ _ _ (first-ok _ _ e)
 
-  fixed-ok : fixedTest b ≡ Accepted
+  fixed-ok : fixedTest file ≡ Accepted
   unfolding headerTest
   fixed-ok = first-ok _ _ (second-ok _ _ e)
 
-  pub header-fits : headerLength b ≤ length b
+  pub header-fits : headerLength file ≤ length file
   unfolding headerTest
   header-fits = under-ok _ _ _ _ (first-ok _ _ (second-ok _ _ (second-ok _ _ e)))
 
-  rest-ok : charactersTest b ≡ Accepted
+  rest-ok : charactersTest file ≡ Accepted
   unfolding headerTest
   rest-ok = second-ok _ _ (second-ok _ _ (second-ok _ _ e))
 
-  magic-is : number 4 0 b ≡ 0x2E736666
+  magic-is : number 4 0 file ≡ 0x2E736666
   unfolding fixedTest
   magic-is = same-ok _ _ _ _ (first-ok _ _ fixed-ok)
 
-  version-is : number 4 4 b ≡ 1
+  version-is : number 4 4 file ≡ 1
   unfolding fixedTest
   version-is = same-ok _ _ _ _ (first-ok _ _ (second-ok _ _ fixed-ok))
 
-  code-is : number 1 30 b ≡ 1
+  code-is : number 1 30 file ≡ 1
   unfolding fixedTest
   code-is = same-ok _ _ _ _ (first-ok _ _ (second-ok _ _ (second-ok _ _ fixed-ok)))
 
-  pub header-sized : headerLength b ≡ up8 (charactersEnd b)
+  pub header-sized : headerLength file ≡ up8 (charactersEnd file)
   unfolding fixedTest
   header-sized = same-ok _ _ _ _ (second-ok _ _ (second-ok _ _ (second-ok _ _ fixed-ok)))
 
-  pub characters-length : length (flowCharacters b) ≡ flows b
-  characters-length = let s = header-sized in let f = header-fits in length-part 31 (flows b) b (omega arith)
+  pub characters-length : length (flowCharacters file) ≡ flows file
+  characters-length = let s = header-sized in let f = header-fits in length-part 31 (flows file) file (omega arith)
 
-  pub key-length : length (part (31 + flows b) (keyLength b) b) ≡ keyLength b
-  key-length = let s = header-sized in let f = header-fits in length-part (31 + flows b) (keyLength b) b (omega arith)
+  pub key-length : length (part (31 + flows file) (keyLength file) file) ≡ keyLength file
+  key-length = let s = header-sized in let f = header-fits in length-part (31 + flows file) (keyLength file) file (omega arith)
 
-  pub characters-good : Every isFlowCharacter (flowCharacters b ++ part (31 + flows b) (keyLength b) b)
+  pub characters-good : Every isFlowCharacter (flowCharacters file ++ part (31 + flows file) (keyLength file) file)
   unfolding charactersTest
   characters-good =
       let s = header-sized in
       let f = header-fits in
-      rw (← part-two 31 (flows b) (keyLength b) b)
-      (scan-ok b 31 (flows b + keyLength b) (charactersEnd b) _ (omega arith) (omega arith) isFlowCharacter (first-ok _ _ rest-ok))
+      rw (← part-two 31 (flows file) (keyLength file) file)
+      (scan-ok file 31 (flows file + keyLength file) (charactersEnd file) _ (omega arith) (omega arith) isFlowCharacter (first-ok _ _ rest-ok))
 
-  padding : Every isZero (part (charactersEnd b) (headerLength b - charactersEnd b) b)
+  padding : Every isZero (part (charactersEnd file) (headerLength file - charactersEnd file) file)
   unfolding charactersTest
   padding =
       let s = header-sized in
       let f = header-fits in
-      scan-ok b (charactersEnd b) (headerLength b - charactersEnd b) (headerLength b) _ (omega arith) (omega arith) isZero (first-ok _ _ (second-ok _ _ rest-ok))
+      scan-ok file (charactersEnd file) (headerLength file - charactersEnd file) (headerLength file) _ (omega arith)
+      (omega arith) isZero (first-ok _ _ (second-ok _ _ rest-ok))
 
-  pub index-good : badIndex (indexOffset b) (indexLength b) ≡ false
+  pub index-good : badIndex (indexOffset file) (indexLength file) ≡ false
   unfolding charactersTest
   index-good = when-ok _ _ _ (second-ok _ _ (second-ok _ _ rest-ok))
 
   -- its characters are handed out
-  pub flow-characters-given : fileFlowCharacters b ≡ flowCharacters b
+  pub flow-characters-given : fileFlowCharacters file ≡ flowCharacters file
   unfolding fileFlowCharacters acceptedOr
   flow-characters-given = rw e
 
-  pub key-given : fileKey b ≡ keyCharacters b
+  pub key-given : fileKey file ≡ keyCharacters file
   unfolding fileKey acceptedOr
   key-given = rw e
 
   -- an accepted header is the layout of a file that says what it says
-  module _ (y : Bytes b) (f : File) (c : f .flow-characters ≡ flowCharacters b) (k : f .key ≡ part (31 + flows b) (keyLength b) b)
-      (o : f .index .offset ≡ indexOffset b) (l : length (f .index .bytes) ≡ indexLength b) (n : length (f .reads) ≡ readCount b) where
-    pub header-laid : Stands 0 (layoutHeader f) b
+  module _ (y : Bytes file) (f : File) (c : f .flow-characters ≡ flowCharacters file) (k : f .key ≡ part (31 + flows file) (keyLength file) file)
+      (o : f .index .offset ≡ indexOffset file) (l : length (f .index .bytes) ≡ indexLength file)
+      (n : length (f .reads) ≡ readCount file) where
+    pub header-laid : Stands 0 (layoutHeader f) file
     unfolding layoutHeader headerFields
     header-laid =
         let s = header-sized in
         let h = header-fits in
         let t = fits-31 in
-        let F = flows b in
-        let K = keyLength b in
-        let lc : length (part 31 F b) ≡ F = characters-length in
-        let lk : length (part (31 + F) K b) ≡ K = key-length in
+        let F = flows file in
+        let K = keyLength file in
+        let lc : length (part 31 F file) ≡ F = characters-length in
+        let lk : length (part (31 + F) K file) ≡ K = key-length in
         rw (c, k, o, l, n, lc, lk, ← s)
         (
         let xs : List (ℕ × ℕ) =
-        (4, 0x2E736666) ∷ (4, 1) ∷ (8, indexOffset b) ∷ (4, indexLength b) ∷ (4, readCount b)
-        ∷ (2, headerLength b) ∷ (2, K) ∷ (2, F) ∷ (1, 1) ∷ [] in
+        (4, 0x2E736666) ∷ (4, 1) ∷ (8, indexOffset file) ∷ (4, indexLength file) ∷ (4, readCount file)
+        ∷ (2, headerLength file) ∷ (2, K) ∷ (2, F) ∷ (1, 1) ∷ [] in
         let l31 : length (fields xs) ≡ 31 = length-fields xs in
-        let lx : length (fields xs ++ part 31 F b) ≡ 31 + F = rw (length-append, l31, lc) in
-        let ly : length (fields xs ++ part 31 F b ++ part (31 + F) K b) ≡ 31 + F + K = rw (length-append, lx, lk) in
-        let st : Stands 0 (fields xs) b = fields-stand b y xs 0 0 (omega arith) (magic-is, (version-is, (refl, (refl, (refl, (refl, (refl, (refl, (code-is, tt))))))))) in
-        filled-stands 0 (charactersEnd b) (up8 (length (fields xs ++ part 31 F b ++ part (31 + F) K b))) (headerLength b - charactersEnd b) (fields xs ++ part 31 F b ++ part (31 + F) K b) b
+        let lx : length (fields xs ++ part 31 F file) ≡ 31 + F = rw (length-append, l31, lc) in
+        let ly : length (fields xs ++ part 31 F file ++ part (31 + F) K file) ≡ 31 + F + K = rw (length-append, lx, lk) in
+        let st : Stands 0 (fields xs) file = fields-stand file y xs 0 0 (omega arith) (magic-is, (version-is, (refl, (refl, (refl, (refl, (refl, (refl, (code-is, tt))))))))) in
+        filled-stands 0 (charactersEnd file) (up8 (length (fields xs ++ part 31 F file ++ part (31 + F) K file)))
+        (headerLength file - charactersEnd file) (fields xs ++ part 31 F file ++ part (31 + F) K file) file
         (rw ly (omega arith)) (rw (ly, s)) (omega arith)
         (
-        stands-both 0 (31 + F) (fields xs ++ part 31 F b) (part (31 + F) K b) b (rw lx (omega arith))
-        (stands-both 0 31 (fields xs) (part 31 F b) b (rw l31) st (read-stands 31 F b (omega arith)))
-        (read-stands (31 + F) K b (omega arith))
+        stands-both 0 (31 + F) (fields xs ++ part 31 F file) (part (31 + F) K file) file (rw lx (omega arith))
+        (stands-both 0 31 (fields xs) (part 31 F file) file (rw l31) st (read-stands 31 F file (omega arith)))
+        (read-stands (31 + F) K file (omega arith))
         )
         padding
         )

@@ -64,20 +64,21 @@ module _ (b : List ℕ) (y : Bytes b) (e : fileTest b ≡ Accepted) (r : Read) (
 
 -- A read's own reasons to be refused (30, 5, 6, 9, 10, 11) hold exactly if no accepted file with these flow characters
 -- could hold it.
-pub given-exactly : (b : List ℕ) (r : Read) → Bytes b → fileTest b ≡ Accepted → Lent r → (givenTest (flowCharacters b) r ≡ Accepted) ↔ Holder (flowCharacters b) r
-given-exactly b r y e t = (
-  (λ g. valid-holder b y e r (given-valid (flowCharacters b) r t g)),
-  (λ k. valid-given (flowCharacters b) r (holder-valid (flowCharacters b) r k)),
+pub given-exactly : (file : List ℕ) (read : Read) → Bytes file → fileTest file ≡ Accepted → Lent read
+    → (givenTest (flowCharacters file) read ≡ Accepted) ↔ Holder (flowCharacters file) read
+given-exactly file read y e t = (
+  (λ g. valid-holder file y e read (given-valid (flowCharacters file) read t g)),
+  (λ k. valid-given (flowCharacters file) read (holder-valid (flowCharacters file) read k)),
 )
 
 -- In a buffer with room, after a file with no index and fewer reads than the count can say, an append is carried out
 -- exactly if some such file could hold the read.
-module _ (buffer : List ℕ) (len : ℕ) (r : Read) (y : Bytes buffer) (t : Lent r) (h : len ≤ length buffer) (e : fileTest (take len buffer) ≡ Accepted)
+module _ (buffer : List ℕ) (len : ℕ) (read : Read) (y : Bytes buffer) (t : Lent read) (h : len ≤ length buffer) (e : fileTest (take len buffer) ≡ Accepted)
     (i : declared (indexOffset (take len buffer)) (indexLength (take len buffer)) ≡ false) (n : readCount (take len buffer) < 4294967295)
-    (m : len + length (layoutRead r) ≤ length buffer) where
-  pub append-exactly : (appendTest buffer len r ≡ Accepted) ↔ Holder (flowCharacters (take len buffer)) r
+    (m : len + length (layoutRead read) ≤ length buffer) where
+  pub append-exactly : (appendTest buffer len read ≡ Accepted) ↔ Holder (flowCharacters (take len buffer)) read
   append-exactly =
-      let g = given-exactly (take len buffer) r (bytes-take len buffer y) e t in (
-        (λ a. g .0 (carried buffer len r a .given)),
-        (λ k. carried-out buffer len r (record { stated = h; accepted = e; no-index = i; below = λ q. let a : ⊥ = omega (arith, n, q) in a; given = g .1 k; room = m })),
+      let g = given-exactly (take len buffer) read (bytes-take len buffer y) e t in (
+        (λ a. g .0 (carried buffer len read a .given)),
+        (λ k. carried-out buffer len read (record { stated = h; accepted = e; no-index = i; below = λ q. let a : ⊥ = omega (arith, n, q) in a; given = g .1 k; room = m })),
       )

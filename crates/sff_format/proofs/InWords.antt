@@ -189,15 +189,18 @@ unfolding lastBase
 last-is n q a e f h k = rw (end-is n q e h, end-is n a f k) (omega arith, omega arith, min-is e f)
 
 -- "If first > last the insert is empty", and else it has the bases from first to last, both counted from 1
-pub insert-empty : {characters : List ℕ} {r : Read} → ValidRead characters r → (length (insertOf r (r .bases)) ≡ 0) ↔ (insertLast r < insertFirst r)
-insert-empty {r = r} v = let s = length-insert v (r .bases) refl in (λ e. omega arith, λ h. omega arith)
+pub insert-empty : {characters : List ℕ} {read : Read} → ValidRead characters read
+    → (length (insertOf read (read .bases)) ≡ 0) ↔ (insertLast read < insertFirst read)
+insert-empty {read = read} v = let s = length-insert v (read .bases) refl in (λ e. omega arith, λ h. omega arith)
 
-pub insert-at : (r : Read) (xs : List ℕ) (j : ℕ) → insertFirst r + j ≤ insertLast r → getD (insertOf r xs) j 0 ≡ getD xs (insertFirst r + j - 1) 0
+pub insert-at : (read : Read) (xs : List ℕ) (j : ℕ) → insertFirst read + j ≤ insertLast read
+    → getD (insertOf read xs) j 0 ≡ getD xs (insertFirst read + j - 1) 0
 unfolding insertOf
-insert-at r xs j h =
-    let o = first-least (r .quality-left) (r .adapter-left) in
-    let e : insertFirst r - 1 + j ≡ insertFirst r + j - 1 = omega arith in
-    getD-part (insertFirst r - 1) (suc (insertLast r) - insertFirst r) xs j (omega arith) ∙ ap (λ (i : ℕ). getD xs i 0) e
+insert-at read xs j h =
+    let o = first-least (read .quality-left) (read .adapter-left) in
+    let e : insertFirst read - 1 + j ≡ insertFirst read + j - 1 = omega arith in
+    getD-part (insertFirst read - 1) (suc (insertLast read) - insertFirst read) xs j (omega arith)
+    ∙ ap (λ (i : ℕ). getD xs i 0) e
 
 -- 8: "just one index field is 0, or index length under 8 or not a multiple of 8"; both fields 0 say that there is none
 abbrev pub BadIndex : ℕ → ℕ → Type 0
@@ -264,8 +267,8 @@ declared-exactly offset len = (
     go true e h = refl
     go false e h = absurd (h (undeclared offset len e))
 
-pub header-index : (b : List ℕ) → headerTest b ≡ Accepted → GoodIndex (indexOffset b) (indexLength b)
-header-index b e = index-fine (indexOffset b) (indexLength b) .0 (index-good b e)
+pub header-index : (file : List ℕ) → headerTest file ≡ Accepted → GoodIndex (indexOffset file) (indexLength file)
+header-index file e = index-fine (indexOffset file) (indexLength file) .0 (index-good file e)
 
 -- no other test of the header answers 8
 abbrev Eight : List ℕ → ℕ → ℕ → Type 0
@@ -299,32 +302,36 @@ eights b =
     )
     )
 
-pub header-eight : (b : List ℕ) (p : ℕ) → headerTest b ≡ Refused 8 p → (p ≡ 8) × BadIndex (indexOffset b) (indexLength b)
-header-eight b p e = let h : Eight b 8 p = rw e at (eights b) in h refl
+pub header-eight : (file : List ℕ) (place : ℕ) → headerTest file ≡ Refused 8 place
+    → (place ≡ 8) × BadIndex (indexOffset file) (indexLength file)
+header-eight file place e = let h : Eight file 8 place = rw e at (eights file) in h refl
 
 -- "A fresh state has passed nothing and stands at the header's end, or at 0 if the header is refused"
-pub fresh-passed : (b : List ℕ) → (fresh b .passed-reads ≡ 0) × (fresh b .passed-index ≡ false)
+pub fresh-passed : (file : List ℕ) → (fresh file .passed-reads ≡ 0) × (fresh file .passed-index ≡ false)
 unfolding fresh
-fresh-passed b = (refl, refl)
+fresh-passed file = (refl, refl)
 
-pub fresh-accepted : (b : List ℕ) → headerTest b ≡ Accepted
-    → (fresh b .place ≡ headerLength b) × (fresh b .place ≡ up8 (31 + flows b + keyLength b))
+pub fresh-accepted : (file : List ℕ) → headerTest file ≡ Accepted
+    → (fresh file .place ≡ headerLength file) × (fresh file .place ≡ up8 (31 + flows file + keyLength file))
 unfolding fresh freshPlace
-fresh-accepted b e = rw e (refl, header-sized b e)
+fresh-accepted file e = rw e (refl, header-sized file e)
 
-pub fresh-refused : (b : List ℕ) (n p : ℕ) → headerTest b ≡ Refused n p → fresh b .place ≡ 0
+pub fresh-refused : (file : List ℕ) (n place : ℕ) → headerTest file ≡ Refused n place → fresh file .place ≡ 0
 unfolding fresh freshPlace
-fresh-refused b n p e = rw e
+fresh-refused file n place e = rw e
 
 -- reads keep the rules exactly if each does
-pub each-valid : (characters : List ℕ) (rs : List Read)
-    → ((i : ℕ) → i < length rs → ValidRead characters (getD rs i noRead)) → ValidReads characters rs
+pub each-valid : (characters : List ℕ) (reads : List Read)
+    → ((position : ℕ) → position < length reads → ValidRead characters (getD reads position noRead))
+    → ValidReads characters reads
 each-valid characters [] h = tt
-each-valid characters (r ∷ rs) h = (h 0 (omega arith), each-valid characters rs (λ i l. h (suc i) (omega arith)))
+each-valid characters (read ∷ reads) h =
+    (h 0 (omega arith), each-valid characters reads (λ i l. h (suc i) (omega arith)))
 
 -- each read of an accepted file keeps the rules
-pub read-keeps : (b : List ℕ) → Bytes b → fileTest b ≡ Accepted → (i : ℕ) → i < readCount b
-    → ValidRead (flowCharacters b) (readAt (parse b) i)
+pub read-keeps : (file : List ℕ) → Bytes file → fileTest file ≡ Accepted → (position : ℕ) → position < readCount file
+    → ValidRead (flowCharacters file) (readAt (parse file) position)
 unfolding parse
-read-keeps b y e i h =
-    valid-at (flowCharacters b) (parse b .reads) i (rw (reads-counted b) h) (file-valid b y e .reads-good)
+read-keeps file y e position h =
+    valid-at (flowCharacters file) (parse file .reads) position (rw (reads-counted file) h)
+    (file-valid file y e .reads-good)

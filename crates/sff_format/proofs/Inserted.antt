@@ -42,31 +42,35 @@ pub first-least : (ql al : ℕ) → 1 ≤ firstBase ql al
 unfolding firstBase
 first-least ql al = omega arith
 
-module _ {characters : List ℕ} {r : Read} (v : ValidRead characters r) where
+module _ {characters : List ℕ} {read : Read} (v : ValidRead characters read) where
   -- the last base, also of an empty insert
-  pub last-in : insertLast r ≤ length (r .bases)
+  pub last-in : insertLast read ≤ length (read .bases)
   unfolding lastBase
-  last-in = let h = right-in (length (r .bases)) (r .quality-right) (v .quality-right-good) in omega arith
+  last-in = let h = right-in (length (read .bases)) (read .quality-right) (v .quality-right-good) in omega arith
 
   -- the first base lies in the read, or right after it
-  pub first-in : insertFirst r ≤ length (r .bases) + 1
+  pub first-in : insertFirst read ≤ length (read .bases) + 1
   unfolding firstBase
   first-in =
-      let q = left-in (length (r .bases)) (r .quality-left) (v .quality-left-good) in
-      let a = left-in (length (r .bases)) (r .adapter-left) (v .adapter-left-good) in
+      let q = left-in (length (read .bases)) (read .quality-left) (v .quality-left-good) in
+      let a = left-in (length (read .bases)) (read .adapter-left) (v .adapter-left-good) in
       omega arith
 
   -- "a non-empty insert lies within the read"
-  pub insert-within : insertFirst r ≤ insertLast r → (1 ≤ insertFirst r) × (insertLast r ≤ length (r .bases))
-  insert-within h = (first-least (r .quality-left) (r .adapter-left), last-in)
+  pub insert-within : insertFirst read ≤ insertLast read
+      → (1 ≤ insertFirst read) × (insertLast read ≤ length (read .bases))
+  insert-within h = (first-least (read .quality-left) (read .adapter-left), last-in)
 
   -- so its stretch lies in any list with an entry for each base, and is as long there as the stretch says
-  pub stretch-in : insertStretch r .at + insertStretch r .size ≤ length (r .bases)
-  stretch-in = let f = first-in in let l = last-in in let o = first-least (r .quality-left) (r .adapter-left) in omega arith
+  pub stretch-in : insertStretch read .at + insertStretch read .size ≤ length (read .bases)
+  stretch-in = let f = first-in in let l = last-in in let o = first-least (read .quality-left) (read .adapter-left) in omega arith
 
-  pub length-insert : (xs : List ℕ) → length xs ≡ length (r .bases) → length (insertOf r xs) ≡ insertStretch r .size
+  pub length-insert : (xs : List ℕ) → length xs ≡ length (read .bases)
+      → length (insertOf read xs) ≡ insertStretch read .size
   unfolding insertOf
-  length-insert xs n = let s = stretch-in in length-part (insertStretch r .at) (insertStretch r .size) xs (omega arith)
+  length-insert xs n =
+      let s = stretch-in in
+      length-part (insertStretch read .at) (insertStretch read .size) xs (omega arith)
 
 module _ (characters b : List ℕ) (p : ℕ) (y : Bytes b) (e : readTest characters b p ≡ Accepted) where
   abbrev view : ReadView

@@ -27,10 +27,11 @@ module _ (characters : List ℕ) where
   valid-next (u ∷ us) r ws g = valid-next us r ws (g .1)
 
   -- each of them
-  pub valid-at : (rs : List Read) (i : ℕ) → i < length rs → ValidReads characters rs → ValidRead characters (getD rs i noRead)
-  valid-at [] i h g = absurd (let a : ⊥ = omega arith in a)
-  valid-at (r ∷ rs) zero h g = g .0
-  valid-at (r ∷ rs) (suc i) h g = valid-at rs i (omega arith) (g .1)
+  pub valid-at : (reads : List Read) (position : ℕ) → position < length reads → ValidReads characters reads
+      → ValidRead characters (getD reads position noRead)
+  valid-at [] position h g = absurd (let a : ⊥ = omega arith in a)
+  valid-at (read ∷ reads) zero h g = g .0
+  valid-at (read ∷ reads) (suc position) h g = valid-at reads position (omega arith) (g .1)
 
   -- any set of them left out, and another in the place of one
   some-valid : {us rs : List Read} → Sublistᴰ us rs → ValidReads characters rs → ValidReads characters us

@@ -90,69 +90,79 @@ module _ (b : List ℕ) (y : Bytes b) (head : headerTest b ≡ Accepted) where
             let k : readEnd (flows b) b p + length rest ≡ p + (length (layoutRead (parseRead (flows b) b p)) + length rest) = omega arith in
             rw (place-read b p false g i, parse-read b p false g n, length-append, more (readEnd (flows b) b p) (here-next b y head d n p g l e) (second-ok _ _ t), k)
 
-module _ (b : List ℕ) (y : Bytes b) (e : fileTest b ≡ Accepted) (i : ℕ) (h : i < readCount b) where
-  pub read-found : readAt (parse b) i ≡ parseRead (flows b) b (readPlace b i)
+module _ (file : List ℕ) (y : Bytes file) (e : fileTest file ≡ Accepted) (position : ℕ) (h : position < readCount file) where
+  pub read-found : readAt (parse file) position ≡ parseRead (flows file) file (readPlace file position)
   unfolding parse readPlace
-  read-found = parse-at b (readCount b) i (headerLength b) false h
+  read-found = parse-at file (readCount file) position (headerLength file) false h
 
-  index-size : length (layoutIndex (indexOf b)) ≡ indexSize (indexLength b)
-  index-size = rw (index-laid b (index-passed b y e)) (length-part (indexOffset b) (indexSize (indexLength b)) b (pass-fits b (indexOffset b) (index-passed b y e)))
+  index-size : length (layoutIndex (indexOf file)) ≡ indexSize (indexLength file)
+  index-size = rw (index-laid file (index-passed file y e)) (length-part (indexOffset file) (indexSize (indexLength file)) file (pass-fits file (indexOffset file) (index-passed file y e)))
 
-  found : (t : Bool) → declared (indexOffset b) (indexLength b) ≡ t → (at : ℕ) → at ≡ headerLength b + length (layoutReads (take i (parseReads b (readCount b) (headerLength b) false)))
-      → placeFrom b i (headerLength b) false ≡ at + cond (leb (indexOffset b) at) (indexSize (indexLength b)) 0
+  found : (t : Bool) → declared (indexOffset file) (indexLength file) ≡ t → (at : ℕ)
+      → at
+      ≡ headerLength file + length
+      (layoutReads (take position (parseReads file (readCount file) (headerLength file) false)))
+      → placeFrom file position (headerLength file) false
+      ≡ at + cond (leb (indexOffset file) at) (indexSize (indexLength file)) 0
   unfolding shift
-  found true d at a = rw a (pending-place b y (head-ok b e) d (readCount b) i (headerLength b) (header-fits b (head-ok b e)) (sections-ok b e) h)
+  found true d at a = rw a (pending-place file y (head-ok file e) d (readCount file) position (headerLength file) (header-fits file (head-ok file e)) (sections-ok file e) h)
   found false d at a =
-      let u = undeclared (indexOffset b) (indexLength b) d in
-      let l : indexLength b ≡ 0 = u .1 in
-      let z : indexSize (indexLength b) ≡ 0 = ap indexSize l ∙ size-none in
-      let done : Done b false = rw d in
-      rw (a, z, none (leb (indexOffset b) _), add-zero) (plain-place b y (head-ok b e) (readCount b) i (headerLength b) false done (sections-ok b e) h)
+      let u = undeclared (indexOffset file) (indexLength file) d in
+      let l : indexLength file ≡ 0 = u .1 in
+      let z : indexSize (indexLength file) ≡ 0 = ap indexSize l ∙ size-none in
+      let done : Done file false = rw d in
+      rw (a, z, none (leb (indexOffset file) _), add-zero) (plain-place file y (head-ok file e) (readCount file) position (headerLength file) false done (sections-ok file e) h)
     where
       none : (t : Bool) → _≡_ {A = ℕ} (cond t 0 0) 0
       none true = refl
       none false = refl
 
-  pub place-found : readPlace b i ≡ place (parse b) i
+  pub place-found : readPlace file position ≡ place (parse file) position
   unfolding parse readPlace place
-  place-found = rw index-size (found (declared (indexOffset b) (indexLength b)) refl _ (ap (λ (n : ℕ). n + length (layoutReads (take i (parseReads b (readCount b) (headerLength b) false)))) (header-size b y e)))
+  place-found = rw index-size (found (declared (indexOffset file) (indexLength file)) refl _ (ap (λ (n : ℕ). n + length (layoutReads (take position (parseReads file (readCount file) (headerLength file) false)))) (header-size file y e)))
 
-  at : Split (parse b) i
-  at = split (parse b) i (rw (reads-counted b) h) (file-valid b y e)
+  at : Split (parse file) position
+  at = split (parse file) position (rw (reads-counted file) h) (file-valid file y e)
 
   own : List ℕ
-  own = layoutRead (readAt (parse b) i)
+  own = layoutRead (readAt (parse file) position)
 
-  is : b ≡ at .front ++ (own ++ at .back)
+  is : file ≡ at .front ++ (own ++ at .back)
   unfolding own
-  is = sym (file-laid b y e) ∙ at .is
+  is = sym (file-laid file y e) ∙ at .is
 
-  front-size : length (at .front) ≡ readPlace b i
+  front-size : length (at .front) ≡ readPlace file position
   front-size = at .size ∙ sym place-found
 
-  front-is : take (readPlace b i) b ≡ at .front
-  front-is = ap (take (readPlace b i)) is ∙ take-at (at .front) (own ++ at .back) (readPlace b i) front-size
+  front-is : take (readPlace file position) file ≡ at .front
+  front-is =
+      ap (take (readPlace file position)) is
+      ∙ take-at (at .front) (own ++ at .back) (readPlace file position) front-size
 
-  rest-is : drop (readPlace b i) b ≡ own ++ at .back
-  rest-is = ap (drop (readPlace b i)) is ∙ drop-at (at .front) (own ++ at .back) (readPlace b i) front-size
+  rest-is : drop (readPlace file position) file ≡ own ++ at .back
+  rest-is =
+      ap (drop (readPlace file position)) is
+      ∙ drop-at (at .front) (own ++ at .back) (readPlace file position) front-size
 
-  back-is : drop (readPlace b i + length (layoutRead (readAt (parse b) i))) b ≡ at .back
+  back-is : drop (readPlace file position + length (layoutRead (readAt (parse file) position))) file ≡ at .back
   unfolding own
-  back-is = drop-rest (readPlace b i) own (at .back) b rest-is
+  back-is = drop-rest (readPlace file position) own (at .back) file rest-is
 
-  -- an accepted file at read i: what stands before it, its sections, and what stands after
-  pub read-split : b ≡ take (readPlace b i) b ++ (layoutRead (readAt (parse b) i) ++ drop (readPlace b i + length (layoutRead (readAt (parse b) i))) b)
+  -- an accepted file at the read at that position: what stands before it, its sections, and what stands after
+  pub read-split : file ≡ take (readPlace file position) file ++ (layoutRead (readAt (parse file) position) ++ drop (readPlace file position + length (layoutRead (readAt (parse file) position))) file)
   unfolding own
   read-split = rw (front-is, back-is) is
 
   -- a read of the same size in its place, or any where there is no index: what stands before and after it stays
-  pub read-changed : (r : Read) → (length (layoutRead r) ≡ length (layoutRead (readAt (parse b) i))) ⊎ (parse b .index ≡ noIndex)
-      → layout (withReads (replaced i (r ∷ []) (parse b .reads)) (parse b))
-      ≡ take (readPlace b i) b ++ (layoutRead r ++ drop (readPlace b i + length (layoutRead (readAt (parse b) i))) b)
+  pub read-changed : (r : Read)
+      → (length (layoutRead r) ≡ length (layoutRead (readAt (parse file) position))) ⊎ (parse file .index ≡ noIndex)
+      → layout (withReads (replaced position (r ∷ []) (parse file .reads)) (parse file))
+      ≡ take (readPlace file position) file
+      ++ (layoutRead r ++ drop (readPlace file position + length (layoutRead (readAt (parse file) position))) file)
   read-changed r s = rw (front-is, back-is) (at .changed r s)
 
   -- the read left out, and counted no more
-  pub read-gone : parse b .index ≡ noIndex
-      → layout (withReads (replaced i [] (parse b .reads)) (parse b))
-      ≡ putAt 20 (bytesOf 4 (length (replaced i [] (parse b .reads)))) (take (readPlace b i) b ++ drop (readPlace b i + length (layoutRead (readAt (parse b) i))) b)
+  pub read-gone : parse file .index ≡ noIndex
+      → layout (withReads (replaced position [] (parse file .reads)) (parse file))
+      ≡ putAt 20 (bytesOf 4 (length (replaced position [] (parse file .reads)))) (take (readPlace file position) file ++ drop (readPlace file position + length (layoutRead (readAt (parse file) position))) file)
   read-gone n = rw (front-is, back-is) (at .gone n)

@@ -44,17 +44,20 @@ module _ (b : List ℕ) (i : ℕ) (e : fileTest b ≡ Accepted) (h : i < readCou
   read-accepted = place-accepted b (readCount b) i _ _ (sections-ok b e) h
 
 -- what the code asks of a position, and what it answers
-pub position-there : (b : List ℕ) (i : ℕ) → fileTest b ≡ Accepted → i < readCount b → Accepted ≡ positionTest b i
+pub position-there : (file : List ℕ) (position : ℕ) → fileTest file ≡ Accepted → position < readCount file
+    → Accepted ≡ positionTest file position
 unfolding positionTest _then_ when
-position-there b i e h = rw (e, lt-ltb i (readCount b) h)
+position-there file position e h = rw (e, lt-ltb position (readCount file) h)
 
-pub position-none : (b : List ℕ) (i : ℕ) → fileTest b ≡ Accepted → readCount b ≤ i → Refused 21 0 ≡ positionTest b i
+pub position-none : (file : List ℕ) (position : ℕ) → fileTest file ≡ Accepted → readCount file ≤ position
+    → Refused 21 0 ≡ positionTest file position
 unfolding positionTest _then_ when
-position-none b i e h = rw (e, le-ltb i (readCount b) h)
+position-none file position e h = rw (e, le-ltb position (readCount file) h)
 
-pub position-refused : (b : List ℕ) (i n p : ℕ) → fileTest b ≡ Refused n p → positionTest b i ≡ Refused n p
+pub position-refused : (file : List ℕ) (position n place : ℕ) → fileTest file ≡ Refused n place
+    → positionTest file position ≡ Refused n place
 unfolding positionTest _then_
-position-refused b i n p e = rw e
+position-refused file position n place e = rw e
 
 -- what stands for a refused call
 module _ (b : List ℕ) (i n p : ℕ) (e : positionTest b i ≡ Refused n p) where
@@ -70,99 +73,118 @@ module _ (b : List ℕ) (i n p : ℕ) (e : positionTest b i ≡ Refused n p) whe
   unfolding fileLast acceptedOr
   last-refused = rw e
 
-module _ (b : List ℕ) (i : ℕ) (e : positionTest b i ≡ Accepted) where
-  pub position-file : fileTest b ≡ Accepted
+module _ (file : List ℕ) (position : ℕ) (e : positionTest file position ≡ Accepted) where
+  pub position-file : fileTest file ≡ Accepted
   unfolding positionTest
   position-file = first-ok _ _ e
 
-  pub position-below : i < readCount b
+  pub position-below : position < readCount file
   unfolding positionTest
-  position-below = ltb-true i (readCount b) (not-false _ (when-ok _ _ _ (second-ok _ _ e)))
+  position-below = ltb-true position (readCount file) (not-false _ (when-ok _ _ _ (second-ok _ _ e)))
 
-  pub first-view : viewFirst (viewOf b i) ≡ fileFirst b i
+  pub first-view : viewFirst (viewOf file position) ≡ fileFirst file position
   unfolding fileFirst acceptedOr
   first-view = rw e
 
-  pub last-view : viewLast (viewOf b i) ≡ fileLast b i
+  pub last-view : viewLast (viewOf file position) ≡ fileLast file position
   unfolding fileLast acceptedOr
   last-view = rw e
 
-  pub insert-view : insertIn (viewOf b i) (bytesIn b (viewOf b i .bases)) ≡ fileInsert b i
+  pub insert-view : insertIn (viewOf file position) (bytesIn file (viewOf file position .bases))
+      ≡ fileInsert file position
   unfolding fileInsert acceptedOr
   insert-view = rw e
 
-  count : length (flowCharacters b) ≡ flows b
-  count = characters-length b (head-ok b position-file)
+  count : length (flowCharacters file) ≡ flows file
+  count = characters-length file (head-ok file position-file)
 
-  there : readTest (flowCharacters b) b (readPlace b i) ≡ Accepted
-  there = read-accepted b i position-file position-below
+  there : readTest (flowCharacters file) file (readPlace file position) ≡ Accepted
+  there = read-accepted file position position-file position-below
 
   -- the flow values lie in the file
-  pub values-size : viewOf b i .values .size ≡ 2 * flows b
+  pub values-size : viewOf file position .values .size ≡ 2 * flows file
   unfolding viewAt
   values-size = refl
 
-  pub values-inside : viewOf b i .values .at + 2 * flows b ≤ length b
+  pub values-inside : viewOf file position .values .at + 2 * flows file ≤ length file
   unfolding viewAt
-  values-inside = let f = rw count at (data-fits (flowCharacters b) b (readPlace b i) there) in omega arith
+  values-inside =
+      let f = rw count at (data-fits (flowCharacters file) file (readPlace file position) there) in
+      omega arith
 
-  module _ (y : Bytes b) where
-    read-is : readAt (parse b) i ≡ parseRead (flows b) b (readPlace b i)
-    read-is = read-found b y position-file i position-below
+  module _ (y : Bytes file) where
+    read-is : readAt (parse file) position ≡ parseRead (flows file) file (readPlace file position)
+    read-is = read-found file y position-file position position-below
 
-    pub values-chosen : readAt (parse b) i .values ≡ wordsAt (flows b) (viewOf b i .values .at) b
+    pub values-chosen : readAt (parse file) position .values
+        ≡ wordsAt (flows file) (viewOf file position .values .at) file
     unfolding viewAt parseRead
     values-chosen = rw read-is
 
     -- what is handed over of an accepted file is the insert of its read
-    pub insert-chosen : fileInsert b i ≡ insertOf (readAt (parse b) i) (readAt (parse b) i .bases)
-    insert-chosen = sym insert-view ∙ rw read-is (rw count at (insert-viewed (flowCharacters b) b (readPlace b i) y there))
+    pub insert-chosen : fileInsert file position
+        ≡ insertOf (readAt (parse file) position) (readAt (parse file) position .bases)
+    insert-chosen =
+        sym insert-view
+        ∙ rw read-is (rw count at (insert-viewed (flowCharacters file) file (readPlace file position) y there))
 
-    pub first-chosen : fileFirst b i ≡ insertFirst (readAt (parse b) i)
-    first-chosen = sym first-view ∙ rw read-is (rw count at (first-viewed (flowCharacters b) b (readPlace b i) y there))
+    pub first-chosen : fileFirst file position ≡ insertFirst (readAt (parse file) position)
+    first-chosen =
+        sym first-view
+        ∙ rw read-is (rw count at (first-viewed (flowCharacters file) file (readPlace file position) y there))
 
-    pub last-chosen : fileLast b i ≡ insertLast (readAt (parse b) i)
-    last-chosen = sym last-view ∙ rw read-is (rw count at (last-viewed (flowCharacters b) b (readPlace b i) y there))
+    pub last-chosen : fileLast file position ≡ insertLast (readAt (parse file) position)
+    last-chosen =
+        sym last-view
+        ∙ rw read-is (rw count at (last-viewed (flowCharacters file) file (readPlace file position) y there))
 
     -- it is a part of the file, within the bases of the read
-    pub insert-inside : (fileInsert b i ≡ part (viewOf b i .bases .at + (fileFirst b i - 1)) (suc (fileLast b i) - fileFirst b i) b)
-        × (fileFirst b i - 1 + (suc (fileLast b i) - fileFirst b i) ≤ viewOf b i .bases .size)
+    pub insert-inside : (fileInsert file position ≡ part (viewOf file position .bases .at + (fileFirst file position - 1)) (suc (fileLast file position) - fileFirst file position) file)
+        × (fileFirst file position - 1 + (suc (fileLast file position) - fileFirst file position) ≤ viewOf file position .bases .size)
     insert-inside =
-        let d = rw count at (data-inside (flowCharacters b) b (readPlace b i) there) in
-        let s = rw count at (stretch-viewed (flowCharacters b) b (readPlace b i) y there .1) in
-        let t = (rw count at (insert-part (flowCharacters b) b (readPlace b i) y there)) (viewOf b i .bases) refl (d .2) in
+        let d = rw count at (data-inside (flowCharacters file) file (readPlace file position) there) in
+        let s = rw count at (stretch-viewed (flowCharacters file) file (readPlace file position) y there .1) in
+        let t = (rw count at (insert-part (flowCharacters file) file (readPlace file position) y there)) (viewOf file position .bases) refl (d .2) in
         rw (← first-view, ← last-view) (sym insert-view ∙ t, s)
 
 -- as many bases as from the first to the last, none if it is refused
-pub insert-length : (b : List ℕ) (i : ℕ) → Bytes b → length (fileInsert b i) ≡ suc (fileLast b i) - fileFirst b i
+pub insert-length : (file : List ℕ) (position : ℕ) → Bytes file
+    → length (fileInsert file position) ≡ suc (fileLast file position) - fileFirst file position
 unfolding fileInsert fileFirst fileLast acceptedOr
-insert-length b i y = go (positionTest b i) refl
+insert-length file position y = go (positionTest file position) refl
   where
-    go : (a : Answer) → positionTest b i ≡ a → length (acceptedOr a (insertIn (viewOf b i) (bytesIn b (viewOf b i .bases))) []) ≡ suc (acceptedOr a (viewLast (viewOf b i)) 0) - acceptedOr a (viewFirst (viewOf b i)) 1
-    go Accepted e = insert-whole b (viewOf b i) (rw (count b i e) at (read-view-accepted (flowCharacters b) b (readPlace b i) y (there b i e)))
+    go : (a : Answer) → positionTest file position ≡ a
+        → length (acceptedOr a (insertIn (viewOf file position) (bytesIn file (viewOf file position .bases))) [])
+        ≡ suc (acceptedOr a (viewLast (viewOf file position)) 0) - acceptedOr a (viewFirst (viewOf file position)) 1
+    go Accepted e = insert-whole file (viewOf file position) (rw (count file position e) at (read-view-accepted (flowCharacters file) file (readPlace file position) y (there file position e)))
     go (Refused n p) e = refl
 
 -- what the code asks for a signal summary, and what it answers
-pub signal-none : (b : List ℕ) (i : ℕ) → positionTest b i ≡ Accepted → flows b ≡ 0 → Refused 32 0 ≡ signalTest b i
+pub signal-none : (file : List ℕ) (position : ℕ) → positionTest file position ≡ Accepted → flows file ≡ 0
+    → Refused 32 0 ≡ signalTest file position
 unfolding signalTest _then_ when
-signal-none b i e h = rw (e, eq-eqb (flows b) 0 h)
+signal-none file position e h = rw (e, eq-eqb (flows file) 0 h)
 
-pub signal-there : (b : List ℕ) (i : ℕ) → positionTest b i ≡ Accepted → (flows b ≡ 0 → ⊥) → Accepted ≡ signalTest b i
+pub signal-there : (file : List ℕ) (position : ℕ) → positionTest file position ≡ Accepted → (flows file ≡ 0 → ⊥)
+    → Accepted ≡ signalTest file position
 unfolding signalTest _then_ when
-signal-there b i e h = rw (e, ne-eqb (flows b) 0 h)
+signal-there file position e h = rw (e, ne-eqb (flows file) 0 h)
 
-pub signal-refused : (b : List ℕ) (i n p : ℕ) → positionTest b i ≡ Refused n p → signalTest b i ≡ Refused n p
+pub signal-refused : (file : List ℕ) (position n place : ℕ) → positionTest file position ≡ Refused n place
+    → signalTest file position ≡ Refused n place
 unfolding signalTest _then_
-signal-refused b i n p e = rw e
+signal-refused file position n place e = rw e
 
-module _ (b : List ℕ) (i : ℕ) (e : signalTest b i ≡ Accepted) where
-  pub signal-position : positionTest b i ≡ Accepted
+module _ (file : List ℕ) (position : ℕ) (e : signalTest file position ≡ Accepted) where
+  pub signal-position : positionTest file position ≡ Accepted
   unfolding signalTest
   signal-position = first-ok _ _ e
 
-  pub signal-flows : 1 ≤ flows b
+  pub signal-flows : 1 ≤ flows file
   unfolding signalTest
-  signal-flows = let h = eqb-false (flows b) 0 (when-ok _ _ _ (second-ok _ _ e)) in omega arith
+  signal-flows = let h = eqb-false (flows file) 0 (when-ok _ _ _ (second-ok _ _ e)) in omega arith
 
-  pub flows-small : Bytes b → flows b < 65536
-  flows-small y = let f = fits-31 b (head-ok b (position-file b i signal-position)) in number-small 2 28 b y (omega arith)
+  pub flows-small : Bytes file → flows file < 65536
+  flows-small y =
+      let f = fits-31 file (head-ok file (position-file file position signal-position)) in
+      number-small 2 28 file y (omega arith)

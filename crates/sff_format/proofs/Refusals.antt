@@ -23,9 +23,9 @@ use Rattle.sff_format.specs.Numbers.{headerNumbers, fileNumbers, stepNum
 use Rattle.sff_format.specs.Step.{State, boundary, indexPassed, readOrNone, stepTest, moved, concluded, stepAnswer, step}
 
 -- the tests in their order
-pub header-numbers : (b : List ℕ) → Among headerNumbers (headerTest b)
+pub header-numbers : (file : List ℕ) → Among headerNumbers (headerTest file)
 unfolding headerTest fixedTest charactersTest among
-header-numbers b =
+header-numbers file =
     then-refusing _ _ _ (when-refusing _ _ 1 _ refl)
     (
     then-refusing _ _ _
@@ -97,9 +97,10 @@ boundary-numbers b zero p q = then-refusing _ _ _ (index-numbers b p q) (end-num
 boundary-numbers b (suc n) p q =
     then-refusing _ _ _ (index-numbers b p q) (then-refusing _ _ _ (read-numbers (flowCharacters b) b _) (boundary-numbers b n _ _))
 
-pub file-numbers : (b : List ℕ) → Among fileNumbers (fileTest b)
+pub file-numbers : (file : List ℕ) → Among fileNumbers (fileTest file)
 unfolding fileTest
-file-numbers b = then-refusing _ _ _ (header-in-file b) (boundary-numbers b (readCount b) (headerLength b) false)
+file-numbers file =
+    then-refusing _ _ _ (header-in-file file) (boundary-numbers file (readCount file) (headerLength file) false)
 
 step-test-numbers : (b : List ℕ) (s : State) → Among stepNumbers (stepTest b s)
 unfolding stepTest readOrNone among
@@ -132,12 +133,12 @@ step-answered b s = go (stepTest b s)
     go Accepted = refl
     go (Refused n p) = refl
 
-pub step-numbers : (b : List ℕ) (s : State) → Among stepNumbers (stepAnswer (step b s))
-step-numbers b s = rw (step-answered b s) (step-test-numbers b s)
+pub step-numbers : (file : List ℕ) (state : State) → Among stepNumbers (stepAnswer (step file state))
+step-numbers file state = rw (step-answered file state) (step-test-numbers file state)
 
-pub view-numbers : (b : List ℕ) (v : ReadView) → Among viewNumbers (viewTest b v)
+pub view-numbers : (file : List ℕ) (view : ReadView) → Among viewNumbers (viewTest file view)
 unfolding viewTest among
-view-numbers b v =
+view-numbers file view =
     then-refusing _ _ _ (when-refusing _ _ 1 _ refl)
     (
     then-refusing _ _ _ (when-refusing _ _ 1 _ refl)
@@ -150,13 +151,18 @@ view-numbers b v =
     )
     )
 
-pub position-numbers : (b : List ℕ) (i : ℕ) → Among positionNumbers (positionTest b i)
+pub position-numbers : (file : List ℕ) (position : ℕ) → Among positionNumbers (positionTest file position)
 unfolding positionTest among
-position-numbers b i = then-refusing _ _ _ (more-numbers fileNumbers positionNumbers refl (fileTest b) (file-numbers b)) (when-refusing _ _ 21 _ refl)
+position-numbers file position =
+    then-refusing _ _ _ (more-numbers fileNumbers positionNumbers refl (fileTest file) (file-numbers file))
+    (when-refusing _ _ 21 _ refl)
 
-pub signal-numbers : (b : List ℕ) (i : ℕ) → Among signalNumbers (signalTest b i)
+pub signal-numbers : (file : List ℕ) (position : ℕ) → Among signalNumbers (signalTest file position)
 unfolding signalTest among
-signal-numbers b i = then-refusing _ _ _ (more-numbers positionNumbers signalNumbers refl (positionTest b i) (position-numbers b i)) (when-refusing _ _ 32 _ refl)
+signal-numbers file position =
+    then-refusing _ _ _
+    (more-numbers positionNumbers signalNumbers refl (positionTest file position) (position-numbers file position))
+    (when-refusing _ _ 32 _ refl)
 
 pub new-numbers : (room : ℕ) (characters key : List ℕ) → Among newNumbers (newTest room characters key)
 unfolding newTest among
@@ -182,24 +188,26 @@ given-numbers characters r =
     )
     )
 
-pub append-numbers : (buffer : List ℕ) (len : ℕ) (r : Read) → Among appendNumbers (appendTest buffer len r)
+pub append-numbers : (buffer : List ℕ) (len : ℕ) (read : Read) → Among appendNumbers (appendTest buffer len read)
 unfolding appendTest openTest among
-append-numbers buffer len r =
+append-numbers buffer len read =
     then-refusing _ _ _ (when-refusing _ _ 14 _ refl)
     (
     then-refusing _ _ _
     (then-refusing _ _ _ (more-numbers fileNumbers appendNumbers refl (fileTest (take len buffer)) (file-numbers (take len buffer))) (then-refusing _ _ _ (when-refusing _ _ 25 _ refl) (when-refusing _ _ 31 _ refl)))
-    (then-refusing _ _ _ (given-numbers (flowCharacters (take len buffer)) r) (when-refusing _ _ 26 _ refl))
+    (then-refusing _ _ _ (given-numbers (flowCharacters (take len buffer)) read) (when-refusing _ _ 26 _ refl))
     )
 
 -- "Every answer has a number (0 accepted)": 0 is in none of these lists
-pub file-zero : (b : List ℕ) → numberOf (fileTest b) ≡ 0 → fileTest b ≡ Accepted
+pub file-zero : (file : List ℕ) → numberOf (fileTest file) ≡ 0 → fileTest file ≡ Accepted
 unfolding among
-file-zero b e = zero-accepted fileNumbers refl (fileTest b) (file-numbers b) e
+file-zero file e = zero-accepted fileNumbers refl (fileTest file) (file-numbers file) e
 
-pub append-zero : (buffer : List ℕ) (len : ℕ) (r : Read) → numberOf (appendTest buffer len r) ≡ 0 → appendTest buffer len r ≡ Accepted
+pub append-zero : (buffer : List ℕ) (len : ℕ) (read : Read) → numberOf (appendTest buffer len read) ≡ 0
+    → appendTest buffer len read ≡ Accepted
 unfolding among
-append-zero buffer len r e = zero-accepted appendNumbers refl (appendTest buffer len r) (append-numbers buffer len r) e
+append-zero buffer len read e =
+    zero-accepted appendNumbers refl (appendTest buffer len read) (append-numbers buffer len read) e
 
 -- nor is it a refusal's of a file that is written
 each-numbers : (w : Left) (rs : List Read) → Among appendNumbers (w .outcome .answer) → Among appendNumbers (appendEach w rs .outcome .answer)
@@ -209,12 +217,13 @@ each-numbers w (r ∷ rs) h =
     either-keeps (λ (v : Left). Among appendNumbers (v .outcome .answer)) (w .outcome .answer) (appendEach (appendTo w r) rs) w
     (each-numbers (appendTo w r) rs (append-numbers (w .buffer) (w .outcome .length) r)) h
 
-pub written-zero : (buffer : List ℕ) (f : File) → numberOf (writeEach buffer f .outcome .answer) ≡ 0 → writeEach buffer f .outcome .answer ≡ Accepted
+pub written-zero : (buffer : List ℕ) (content : File) → numberOf (writeEach buffer content .outcome .answer) ≡ 0
+    → writeEach buffer content .outcome .answer ≡ Accepted
 unfolding writeEach newOutcome among
-written-zero buffer f e =
-    zero-accepted appendNumbers refl (writeEach buffer f .outcome .answer)
+written-zero buffer content e =
+    zero-accepted appendNumbers refl (writeEach buffer content .outcome .answer)
     (
-    each-numbers (newIn buffer (f .flow-characters) (f .key)) (f .reads)
-    (more-numbers newNumbers appendNumbers refl (newTest (length buffer) (f .flow-characters) (f .key)) (new-numbers (length buffer) (f .flow-characters) (f .key)))
+    each-numbers (newIn buffer (content .flow-characters) (content .key)) (content .reads)
+    (more-numbers newNumbers appendNumbers refl (newTest (length buffer) (content .flow-characters) (content .key)) (new-numbers (length buffer) (content .flow-characters) (content .key)))
     )
     e

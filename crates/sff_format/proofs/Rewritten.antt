@@ -28,28 +28,36 @@ use Rattle.sff_format.proofs.Writers.{write-each}
 laid-back : (f : File) → Valid f → readBack (layout f) ≡ f .reads
 laid-back f v = reads-in-order (layout f) (file-taken f v) (layout-bytes f v) ∙ ap (λ (g : File). g .reads) (file-back f v)
 
-pub written-back : (f : File) → f .index ≡ noIndex → Valid f → (buffer : List ℕ) → length (layout f) ≤ length buffer
-    → readBack (take (writeEach buffer f .outcome .length) (writeEach buffer f .buffer)) ≡ f .reads
-written-back f e v buffer h = rw (write-each f e v buffer h, take-front (layout f) buffer) (laid-back f v)
+pub written-back : (content : File) → content .index ≡ noIndex → Valid content → (buffer : List ℕ)
+    → length (layout content) ≤ length buffer
+    → readBack (take (writeEach buffer content .outcome .length) (writeEach buffer content .buffer)) ≡ content .reads
+written-back content e v buffer h =
+    rw (write-each content e v buffer h, take-front (layout content) buffer) (laid-back content v)
 
-module _ (b : List ℕ) (y : Bytes b) (e : fileTest b ≡ Accepted) (d : declared (indexOffset b) (indexLength b) ≡ false) where
+module _ (file : List ℕ) (y : Bytes file) (e : fileTest file ≡ Accepted) (d : declared (indexOffset file) (indexLength file) ≡ false) where
   -- what is read: the characters that the header's calls hand out, the reads from the reader
   abbrev again : File
-  again = record { flow-characters = fileFlowCharacters b; key = fileKey b; index = noIndex; reads = readBack b }
-
-  same : again ≡ parse b
-  unfolding parse
-  same = λ j. record {
-    flow-characters = flow-characters-given b (head-ok b e) j;
-    key = key-given b (head-ok b e) j;
-    index = sym (no-index-read b d) j;
-    reads = reads-in-order b e y j;
+  again = record {
+    flow-characters = fileFlowCharacters file;
+    key = fileKey file;
+    index = noIndex;
+    reads = readBack file;
   }
 
-  pub written-again : (buffer : List ℕ) → length b ≤ length buffer
-      → writeEach buffer (record { flow-characters = fileFlowCharacters b; key = fileKey b; index = noIndex; reads = readBack b })
-      ≡ record { outcome = record { answer = Accepted; length = length b }; buffer = putAt 0 b buffer }
+  same : again ≡ parse file
+  unfolding parse
+  same = λ j. record {
+    flow-characters = flow-characters-given file (head-ok file e) j;
+    key = key-given file (head-ok file e) j;
+    index = sym (no-index-read file d) j;
+    reads = reads-in-order file e y j;
+  }
+
+  pub written-again : (buffer : List ℕ) → length file ≤ length buffer
+      → writeEach buffer
+      (record { flow-characters = fileFlowCharacters file; key = fileKey file; index = noIndex; reads = readBack file })
+      ≡ record { outcome = record { answer = Accepted; length = length file }; buffer = putAt 0 file buffer }
   written-again buffer h =
-      let l : layout (parse b) ≡ b = file-laid b y e in
-      let w = write-each (parse b) (no-index-read b d) (file-valid b y e) buffer (rw l h) in
+      let l : layout (parse file) ≡ file = file-laid file y e in
+      let w = write-each (parse file) (no-index-read file d) (file-valid file y e) buffer (rw l h) in
       ap (writeEach buffer) same ∙ (rw l at w)

@@ -79,27 +79,32 @@ module _ (b : List ℕ) (s : State) (e : stepTest b s ≡ Accepted) where
   read-accepted = read-accepted-or .1
 
 -- "A step that refuses, with 33 or any other number, gives back its state unmoved", and one that finds a read has moved
-module _ (b : List ℕ) (s next : State) where
-  pub stop-unmoved : (n p : ℕ) → step b s ≡ stop n p next → next ≡ s
+module _ (file : List ℕ) (state next : State) where
+  pub stop-unmoved : (n place : ℕ) → step file state ≡ stop n place next → next ≡ state
   unfolding step concluded
-  stop-unmoved n p e = go (stepTest b s) e
+  stop-unmoved n place e = go (stepTest file state) e
     where
-      go : (a : Answer) → concluded a (viewAt (flows b) b (boundary b s)) (moved b s) s ≡ stop n p next → next ≡ s
+      go : (a : Answer)
+          → concluded a (viewAt (flows file) file (boundary file state)) (moved file state) state ≡ stop n place next
+          → next ≡ state
       go Accepted f = cc
       go (Refused m q) f = cc
 
-  pub found-moved : (v : ReadView) → step b s ≡ found v next → next ≡ moved b s
+  pub found-moved : (view : ReadView) → step file state ≡ found view next → next ≡ moved file state
   unfolding step concluded
-  found-moved v e = go (stepTest b s) e
+  found-moved view e = go (stepTest file state) e
     where
-      go : (a : Answer) → concluded a (viewAt (flows b) b (boundary b s)) (moved b s) s ≡ found v next → next ≡ moved b s
+      go : (a : Answer)
+          → concluded a (viewAt (flows file) file (boundary file state)) (moved file state) state ≡ found view next
+          → next ≡ moved file state
       go Accepted f = cc
       go (Refused m q) f = cc
 
 -- "refuses a place beyond the file (1, that place)"
-pub place-beyond : (b : List ℕ) (s : State) → headerTest b ≡ Accepted → length b < s .place → step b s ≡ stop 1 (s .place) s
+pub place-beyond : (file : List ℕ) (state : State) → headerTest file ≡ Accepted → length file < state .place
+    → step file state ≡ stop 1 (state .place) state
 unfolding step stepTest concluded _then_ when
-place-beyond b s e h = rw (e, lt-ltb (length b) (s .place) h)
+place-beyond file state e h = rw (e, lt-ltb (length file) (state .place) h)
 
 last-step : (b : List ℕ) (k : ℕ) (s : State) → lastAnswer b (suc k) s ≡ (stepTest b s then lastAnswer b k (moved b s))
 unfolding lastAnswer onStop step concluded _then_
@@ -173,26 +178,31 @@ module _ (b : List ℕ) (head : headerTest b ≡ Accepted) where
       rw (step-found b s (test-read s l n e ∙ rw (t .0, r)), viewed y (boundary b s) r, reads-found y n (moved b s) (omega arith) (read-fits (boundary b s) r) (t .2))
 
 -- from a fresh state: the whole-file test's refusal at last, or 33 at the file's end
-pub steps-end : (b : List ℕ) → lastAnswer b (suc (readCount b)) (fresh b) ≡ (fileTest b then Refused 33 (length b))
+pub steps-end : (file : List ℕ)
+    → lastAnswer file (suc (readCount file)) (fresh file) ≡ (fileTest file then Refused 33 (length file))
 unfolding fileTest fresh freshPlace stepTest _then_
-steps-end b = go (headerTest b) refl
+steps-end file = go (headerTest file) refl
   where
-    go : (a : Answer) → headerTest b ≡ a → lastAnswer b (suc (readCount b)) (record { place = freshPlace a b; passed-reads = 0; passed-index = false })
-        ≡ ((a then boundaryTest b (readCount b) (headerLength b) false) then Refused 33 (length b))
-    go Accepted h = ended b h (readCount b) _ (omega arith) (header-fits b h)
-    go (Refused n p) h = last-step b (readCount b) _ ∙ rw h
+    go : (a : Answer) → headerTest file ≡ a
+        → lastAnswer file (suc (readCount file))
+        (record { place = freshPlace a file; passed-reads = 0; passed-index = false })
+        ≡ ((a then boundaryTest file (readCount file) (headerLength file) false) then Refused 33 (length file))
+    go Accepted h = ended file h (readCount file) _ (omega arith) (header-fits file h)
+    go (Refused n p) h = last-step file (readCount file) _ ∙ rw h
 
-module _ (b : List ℕ) (e : fileTest b ≡ Accepted) where
-  fresh-is : fresh b ≡ record { place = headerLength b; passed-reads = 0; passed-index = false }
+module _ (file : List ℕ) (e : fileTest file ≡ Accepted) where
+  fresh-is : fresh file ≡ record { place = headerLength file; passed-reads = 0; passed-index = false }
   unfolding fresh freshPlace
-  fresh-is = rw (head-ok b e)
+  fresh-is = rw (head-ok file e)
 
   -- "From a fresh state an accepted file's reads come in order, each once"
-  pub reads-in-order : Bytes b → readBack b ≡ parse b .reads
+  pub reads-in-order : Bytes file → readBack file ≡ parse file .reads
   unfolding parse
-  reads-in-order y = let h = head-ok b e in rw fresh-is (reads-found b h y (readCount b) _ (omega arith) (header-fits b h) (sections-ok b e))
+  reads-in-order y =
+      let h = head-ok file e in
+      rw fresh-is (reads-found file h y (readCount file) _ (omega arith) (header-fits file h) (sections-ok file e))
 
   -- "then 33"
-  pub then-33 : lastAnswer b (suc (readCount b)) (fresh b) ≡ Refused 33 (length b)
+  pub then-33 : lastAnswer file (suc (readCount file)) (fresh file) ≡ Refused 33 (length file)
   unfolding _then_
-  then-33 = steps-end b ∙ rw e
+  then-33 = steps-end file ∙ rw e

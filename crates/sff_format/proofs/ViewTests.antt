@@ -41,33 +41,37 @@ insert-length first last l o e = go (leb first last) refl e
     go true k f = let h = leb-true first last k in let m = ltb-false (length l) last f in whole l (between first last) (omega arith) .1
     go false k f = let h = leb-false first last k in let n : suc last - first ≡ 0 = omega arith in rw (n, whole-none (first - 1) l)
 
-module _ (b : List ℕ) (v : ReadView) (e : viewTest b v ≡ Accepted) where
-  pub name-whole : Whole b (v .name)
+module _ (file : List ℕ) (view : ReadView) (e : viewTest file view ≡ Accepted) where
+  pub name-whole : Whole file (view .name)
   unfolding viewTest
-  name-whole = whole b (v .name) (under-ok _ _ _ _ (first-ok _ _ e))
+  name-whole = whole file (view .name) (under-ok _ _ _ _ (first-ok _ _ e))
 
-  pub values-whole : Whole b (v .values)
+  pub values-whole : Whole file (view .values)
   unfolding viewTest
-  values-whole = whole b (v .values) (under-ok _ _ _ _ (first-ok _ _ (second-ok _ _ e)))
+  values-whole = whole file (view .values) (under-ok _ _ _ _ (first-ok _ _ (second-ok _ _ e)))
 
-  pub increments-whole : Whole b (v .increments)
+  pub increments-whole : Whole file (view .increments)
   unfolding viewTest
-  increments-whole = whole b (v .increments) (under-ok _ _ _ _ (first-ok _ _ (second-ok _ _ (second-ok _ _ e))))
+  increments-whole = whole file (view .increments) (under-ok _ _ _ _ (first-ok _ _ (second-ok _ _ (second-ok _ _ e))))
 
-  pub bases-whole : Whole b (v .bases)
+  pub bases-whole : Whole file (view .bases)
   unfolding viewTest
-  bases-whole = whole b (v .bases) (under-ok _ _ _ _ (first-ok _ _ (second-ok _ _ (second-ok _ _ (second-ok _ _ e)))))
+  bases-whole =
+      whole file (view .bases) (under-ok _ _ _ _ (first-ok _ _ (second-ok _ _ (second-ok _ _ (second-ok _ _ e)))))
 
-  pub qualities-whole : Whole b (v .qualities)
+  pub qualities-whole : Whole file (view .qualities)
   unfolding viewTest
-  qualities-whole = whole b (v .qualities) (under-ok _ _ _ _ (first-ok _ _ (second-ok _ _ (second-ok _ _ (second-ok _ _ (second-ok _ _ e))))))
+  qualities-whole =
+      whole file (view .qualities)
+      (under-ok _ _ _ _ (first-ok _ _ (second-ok _ _ (second-ok _ _ (second-ok _ _ (second-ok _ _ e))))))
 
   -- all bases from the first to the last of the insert, none where the last comes before the first
-  pub insert-whole : length (insertIn v (bytesIn b (v .bases))) ≡ viewStretch v .size
+  pub insert-whole : length (insertIn view (bytesIn file (view .bases))) ≡ viewStretch view .size
   unfolding viewTest insertIn
   insert-whole =
-      let t : insertOutside v ≡ false = when-ok _ _ _ (second-ok _ _ (second-ok _ _ (second-ok _ _ (second-ok _ _ (second-ok _ _ e))))) in
-      insert-length (viewFirst v) (viewLast v) (bytesIn b (v .bases)) (first-least (v .«quality_left») (v .«adapter_left»)) (rw (bases-whole .1) t)
+      let t : insertOutside view ≡ false = when-ok _ _ _ (second-ok _ _ (second-ok _ _ (second-ok _ _ (second-ok _ _ (second-ok _ _ e))))) in
+      insert-length (viewFirst view) (viewLast view) (bytesIn file (view .bases))
+      (first-least (view .«quality_left») (view .«adapter_left»)) (rw (bases-whole .1) t)
 
 -- the view of a read that is accepted
 module _ (characters b : List ℕ) (p : ℕ) (y : Bytes b) (e : readTest characters b p ≡ Accepted) where
@@ -108,5 +112,6 @@ step-accepted b s y = go (stepTest b s) refl
         rw (step-found b s e) (rw c at (read-view-accepted (flowCharacters b) b (boundary b s) y (read-accepted b s e)))
     go (Refused n p) e = rw (step-stop b s n p e) tt
 
-pub found-accepted : (b : List ℕ) (s : State) (v : ReadView) (next : State) → Bytes b → step b s ≡ found v next → viewTest b v ≡ Accepted
-found-accepted b s v next y e = subst (FoundAccepted b) e (step-accepted b s y)
+pub found-accepted : (file : List ℕ) (state : State) (view : ReadView) (next : State) → Bytes file
+    → step file state ≡ found view next → viewTest file view ≡ Accepted
+found-accepted file state view next y e = subst (FoundAccepted file) e (step-accepted file state y)

@@ -139,19 +139,20 @@ module _ (buffer characters key : List ℕ) (v : Valid (newFile characters key))
   unfolding newBuffer acceptedOr
   new-buffer = rw new-accepted
 
-module _ (f : File) (e : f .index ≡ noIndex) where
+module _ (content : File) (e : content .index ≡ noIndex) where
   -- "Without one, a new file and an append for each read leave these bytes in any buffer that holds them"
-  pub write-each : Valid f → (buffer : List ℕ) → length (layout f) ≤ length buffer
-      → writeEach buffer f ≡ record { outcome = record { answer = Accepted; length = length (layout f) }; buffer = putAt 0 (layout f) buffer }
+  pub write-each : Valid content → (buffer : List ℕ) → length (layout content) ≤ length buffer
+      → writeEach buffer content ≡ record { outcome = record { answer = Accepted; length = length (layout content) }; buffer = putAt 0 (layout content) buffer }
   unfolding writeEach
   write-each v buffer h =
-      let c = f .flow-characters in
-      let k = f .key in
-      let w : Valid (plain c k (f .reads)) = rw (is-plain f e) v in
-      let l : length (layout (plain c k (f .reads))) ≤ length buffer = rw (is-plain f e) h in
-      let n = valid-front c k [] (f .reads) w in
-      let m : length (layout (newFile c k)) ≤ length buffer = let a = layout-le c k [] (f .reads) in omega arith in
-      rw (new-outcome buffer c k n m, new-buffer buffer c k n m) (each-written c k buffer [] (f .reads) w l ∙ ap (written buffer) (is-plain f e))
+      let c = content .flow-characters in
+      let k = content .key in
+      let w : Valid (plain c k (content .reads)) = rw (is-plain content e) v in
+      let l : length (layout (plain c k (content .reads))) ≤ length buffer = rw (is-plain content e) h in
+      let n = valid-front c k [] (content .reads) w in
+      let m : length (layout (newFile c k)) ≤ length buffer = let a = layout-le c k [] (content .reads) in omega arith in
+      rw (new-outcome buffer c k n m, new-buffer buffer c k n m)
+      (each-written c k buffer [] (content .reads) w l ∙ ap (written buffer) (is-plain content e))
 
 -- a writer that was refused stays so
 stays : (w : Left) (rs : List Read) (n p : ℕ) → w .outcome .answer ≡ Refused n p → appendEach w rs .outcome .answer ≡ Refused n p
@@ -221,14 +222,19 @@ new-valid buffer characters key e =
     )
 
 -- The writers carry all of it out exactly if the file keeps the rules and the buffer holds it.
-module _ (f : File) (e : f .index ≡ noIndex) (buffer : List ℕ) (t : AllLent (f .reads)) where
-  pub write-exactly : (writeEach buffer f .outcome .answer ≡ Accepted) ↔ (Valid f × (length (layout f) ≤ length buffer))
+module _ (content : File) (e : content .index ≡ noIndex) (buffer : List ℕ) (t : AllLent (content .reads)) where
+  pub write-exactly : (writeEach buffer content .outcome .answer ≡ Accepted)
+      ↔ (Valid content × (length (layout content) ≤ length buffer))
   unfolding writeEach
-  write-exactly = ((λ a. go a (newTest (length buffer) (f .flow-characters) (f .key)) refl), (λ k. ap (λ (w : Left). w .outcome .answer) (write-each f e (k .0) buffer (k .1))))
+  write-exactly = ((λ a. go a (newTest (length buffer) (content .flow-characters) (content .key)) refl), (λ k. ap (λ (w : Left). w .outcome .answer) (write-each content e (k .0) buffer (k .1))))
     where
-      go : writeEach buffer f .outcome .answer ≡ Accepted → (a : Answer) → newTest (length buffer) (f .flow-characters) (f .key) ≡ a → Fits buffer f
+      go : writeEach buffer content .outcome .answer ≡ Accepted → (a : Answer)
+          → newTest (length buffer) (content .flow-characters) (content .key) ≡ a → Fits buffer content
       go a Accepted n =
-          let x = new-valid buffer (f .flow-characters) (f .key) n in
-          rw (is-plain f e) at (each-exactly (f .flow-characters) (f .key) buffer [] (f .reads) (x .0) (x .1) t
-          (rw (new-outcome buffer (f .flow-characters) (f .key) (x .0) (x .1), new-buffer buffer (f .flow-characters) (f .key) (x .0) (x .1)) at a))
-      go a (Refused m p) n = not-accepted m p (sym (stays _ (f .reads) m p (new-refused buffer (f .flow-characters) (f .key) m p n)) ∙ a)
+          let x = new-valid buffer (content .flow-characters) (content .key) n in
+          rw (is-plain content e) at
+          (each-exactly (content .flow-characters) (content .key) buffer [] (content .reads) (x .0) (x .1) t
+          (rw (new-outcome buffer (content .flow-characters) (content .key) (x .0) (x .1), new-buffer buffer (content .flow-characters) (content .key) (x .0) (x .1)) at a))
+      go a (Refused m p) n =
+          not-accepted m p
+          (sym (stays _ (content .reads) m p (new-refused buffer (content .flow-characters) (content .key) m p n)) ∙ a)

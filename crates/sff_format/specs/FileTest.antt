@@ -13,40 +13,41 @@ use Rattle.sff_format.specs.ReadTest.{readTest, readEnd}
 
 -- "an index declared there and not yet passed"
 unfoldable pub indexDue : ℕ → ℕ → ℕ → Bool → Bool
-indexDue offset len p passed = not passed && (declared offset len && eqb p offset)
+indexDue offset len place passed = not passed && (declared offset len && eqb place offset)
 
 abbrev pub indexHere : List ℕ → ℕ → Bool → Bool
-indexHere b p passed = indexDue (indexOffset b) (indexLength b) p passed
+indexHere file place passed = indexDue (indexOffset file) (indexLength file) place passed
 
 -- "is passed (1 if cut short)"
 unfoldable pub passTest : List ℕ → ℕ → Answer
-passTest b p = when (ltb (length b) (p + indexSize (indexLength b))) 1 p
+passTest file place = when (ltb (length file) (place + indexSize (indexLength file))) 1 place
 
 unfoldable pub indexTest : List ℕ → ℕ → Bool → Answer
-indexTest b p passed = cond (indexHere b p passed) (passTest b p) Accepted
+indexTest file place passed = cond (indexHere file place passed) (passTest file place) Accepted
 
 -- "to the boundary at its end"
 unfoldable pub pastIndex : List ℕ → ℕ → Bool → ℕ
-pastIndex b p passed = cond (indexHere b p passed) (p + indexSize (indexLength b)) p
+pastIndex file place passed = cond (indexHere file place passed) (place + indexSize (indexLength file)) place
 
 abbrev pub nowPassed : List ℕ → ℕ → Bool → Bool
-nowPassed b p passed = passed || indexHere b p passed
+nowPassed file place passed = passed || indexHere file place passed
 
 -- "the end: 13, then 12"
 unfoldable pub endTest : List ℕ → ℕ → Bool → Answer
-endTest b p passed =
-    when (declared (indexOffset b) (indexLength b) && not passed) 13 8
-    then when (ltb p (length b)) 12 p
+endTest file place passed =
+    when (declared (indexOffset file) (indexLength file) && not passed) 13 8
+    then when (ltb place (length file)) 12 place
 
 -- "At each boundary: an index declared there and not yet passed is passed ..; else, if reads remain, a read is tested;
 -- else the end", with n reads that remain
 unfoldable pub boundaryTest : List ℕ → ℕ → ℕ → Bool → Answer
-boundaryTest b zero p passed = indexTest b p passed then endTest b (pastIndex b p passed) (nowPassed b p passed)
-boundaryTest b (suc n) p passed =
-    let at = pastIndex b p passed in
-    let more = boundaryTest b n (readEnd (flows b) b at) (nowPassed b p passed) in
-    indexTest b p passed then readTest (flowCharacters b) b at then more
+boundaryTest file zero place passed =
+    indexTest file place passed then endTest file (pastIndex file place passed) (nowPassed file place passed)
+boundaryTest file (suc n) place passed =
+    let at = pastIndex file place passed in
+    let more = boundaryTest file n (readEnd (flows file) file at) (nowPassed file place passed) in
+    indexTest file place passed then readTest (flowCharacters file) file at then more
 
 -- "Order of the file's tests": the header's, and the boundary at its end, with as many reads as the count says
 unfoldable pub fileTest : List ℕ → Answer
-fileTest b = headerTest b then boundaryTest b (readCount b) (headerLength b) false
+fileTest file = headerTest file then boundaryTest file (readCount file) (headerLength file) false

@@ -22,18 +22,18 @@ unfoldable pub lastBase : ℕ → ℕ → ℕ → ℕ
 lastBase n quality-right adapter-right = min (rightEnd n quality-right) (rightEnd n adapter-right)
 
 abbrev pub insertFirst : Read → ℕ
-insertFirst r = firstBase (r .quality-left) (r .adapter-left)
+insertFirst read = firstBase (read .quality-left) (read .adapter-left)
 
 abbrev pub insertLast : Read → ℕ
-insertLast r = lastBase (length (r .bases)) (r .quality-right) (r .adapter-right)
+insertLast read = lastBase (length (read .bases)) (read .quality-right) (read .adapter-right)
 
 -- from first to last, both from 1, of whatever a read has one of for each base: none "If first > last"
 abbrev pub between : ℕ → ℕ → Stretch
 between first last = record { at = first - 1; size = suc last - first }
 
 abbrev pub insertStretch : Read → Stretch
-insertStretch r = between (insertFirst r) (insertLast r)
+insertStretch read = between (insertFirst read) (insertLast read)
 
 -- the insert of such a list: of the bases, or of the qualities
 unfoldable pub insertOf : Read → List ℕ → List ℕ
-insertOf r xs = part (insertStretch r .at) (insertStretch r .size) xs
+insertOf read xs = part (insertStretch read .at) (insertStretch read .size) xs

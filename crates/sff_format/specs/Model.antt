@@ -39,48 +39,62 @@ noIndex = record { offset = 0; bytes = [] }
 -- (4), reads at 20 (4), header length at 24 (2), key length K at 26 (2), flows F at 28 (2), format code at 30 (1, must
 -- be 1)"
 unfoldable pub headerFields : File → List (ℕ × ℕ)
-headerFields f =
-    (4, 0x2E736666) ∷ (4, 1) ∷ (8, f .index .offset) ∷ (4, length (f .index .bytes)) ∷ (4, length (f .reads))
-    ∷ (2, up8 (31 + length (f .flow-characters) + length (f .key))) ∷ (2, length (f .key)) ∷ (2, length (f .flow-characters)) ∷ (1, 1) ∷ []
+headerFields content =
+    (4, 0x2E736666) ∷ (4, 1) ∷ (8, content .index .offset) ∷ (4, length (content .index .bytes))
+    ∷ (4, length (content .reads))
+    ∷ (2, up8 (31 + length (content .flow-characters) + length (content .key))) ∷ (2, length (content .key))
+    ∷ (2, length (content .flow-characters)) ∷ (1, 1) ∷ []
 
 -- "F flow characters, K key characters, zero padding to up8(31+F+K), which is the header length"
 unfoldable pub layoutHeader : File → List ℕ
-layoutHeader f = padded (fields (headerFields f) ++ f .flow-characters ++ f .key)
+layoutHeader content = padded (fields (headerFields content) ++ content .flow-characters ++ content .key)
 
 -- "Each read has a header section: its length (2), name length L (2), bases N (4), quality left, quality right, adapter
 -- left, adapter right (2 each, in that order), name, zero padding to up8(16+L)"
 unfoldable pub readFields : Read → List (ℕ × ℕ)
-readFields r =
-    (2, up8 (16 + length (r .name))) ∷ (2, length (r .name)) ∷ (4, length (r .bases))
-    ∷ (2, r .quality-left) ∷ (2, r .quality-right) ∷ (2, r .adapter-left) ∷ (2, r .adapter-right) ∷ []
+readFields read =
+    (2, up8 (16 + length (read .name))) ∷ (2, length (read .name)) ∷ (4, length (read .bases))
+    ∷ (2, read .quality-left) ∷ (2, read .quality-right) ∷ (2, read .adapter-left) ∷ (2, read .adapter-right) ∷ []
 
 unfoldable pub layoutReadHeader : Read → List ℕ
-layoutReadHeader r = padded (fields (readFields r) ++ r .name)
+layoutReadHeader read = padded (fields (readFields read) ++ read .name)
 
 -- "Then a data section: F flow values of 2 bytes, N flow index bytes, N bases, N qualities, zero padding to up8(2F+3N)"
 unfoldable pub layoutReadData : Read → List ℕ
-layoutReadData r = padded (words (r .values) ++ r .increments ++ r .bases ++ r .qualities)
+layoutReadData read = padded (words (read .values) ++ read .increments ++ read .bases ++ read .qualities)
 
 -- both sections of a read; and of reads, one behind the other
 unfoldable pub layoutRead : Read → List ℕ
-layoutRead r = layoutReadHeader r ++ layoutReadData r
+layoutRead read = layoutReadHeader read ++ layoutReadData read
 
 unfoldable pub layoutReads : List Read → List ℕ
 layoutReads [] = []
-layoutReads (r ∷ rs) = layoutRead r ++ layoutReads rs
+layoutReads (read ∷ reads) = layoutRead read ++ layoutReads reads
 
 -- an index's "bytes, of any content", in the room that it occupies
 unfoldable pub layoutIndex : Index → List ℕ
-layoutIndex x = filled (indexSize (length (x .bytes))) (x .bytes)
+layoutIndex index = filled (indexSize (length (index .bytes))) (index .bytes)
 
 -- "Writing afresh .. lays out, as above, a header from flow and key characters, the count being the number of reads,
 -- then the sections of a list of reads in order. An index stands at its offset"
 unfoldable pub layout : File → List ℕ
-layout f = insertAt (f .index .offset) (layoutIndex (f .index)) (layoutHeader f ++ layoutReads (f .reads))
+layout content =
+    insertAt (content .index .offset) (layoutIndex (content .index))
+    (layoutHeader content ++ layoutReads (content .reads))
 
 -- the same file with other reads, and with another index
 abbrev pub withReads : List Read → File → File
-withReads rs f = record { flow-characters = f .flow-characters; key = f .key; index = f .index; reads = rs }
+withReads reads content = record {
+  flow-characters = content .flow-characters;
+  key = content .key;
+  index = content .index;
+  reads = reads;
+}
 
 abbrev pub withIndex : Index → File → File
-withIndex x f = record { flow-characters = f .flow-characters; key = f .key; index = x; reads = f .reads }
+withIndex index content = record {
+  flow-characters = content .flow-characters;
+  key = content .key;
+  index = index;
+  reads = content .reads;
+}

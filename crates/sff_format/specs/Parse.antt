@@ -9,35 +9,35 @@ use Rattle.sff_format.specs.HeaderTest.{indexOffset, indexLength, readCo
 use Rattle.sff_format.specs.ReadTest.{sectionLength, nameLength, baseCount, qualityLeft, qualityRight, adapterLeft, adapterRight, readEnd}
 use Rattle.sff_format.specs.FileTest.{pastIndex, nowPassed}
 
--- the read at place p, of F flow values
+-- the read at a place, of F flow values
 unfoldable pub parseRead : ℕ → List ℕ → ℕ → Read
-parseRead F b p =
-    let d = p + sectionLength b p in
-    let n = baseCount b p in
+parseRead F file place =
+    let data-start = place + sectionLength file place in
+    let count = baseCount file place in
     record {
-      name = part (p + 16) (nameLength b p) b;
-      quality-left = qualityLeft b p;
-      quality-right = qualityRight b p;
-      adapter-left = adapterLeft b p;
-      adapter-right = adapterRight b p;
-      values = wordsAt F d b;
-      increments = part (d + 2 * F) n b;
-      bases = part (d + 2 * F + n) n b;
-      qualities = part (d + 2 * F + n + n) n b;
+      name = part (place + 16) (nameLength file place) file;
+      quality-left = qualityLeft file place;
+      quality-right = qualityRight file place;
+      adapter-left = adapterLeft file place;
+      adapter-right = adapterRight file place;
+      values = wordsAt F data-start file;
+      increments = part (data-start + 2 * F) count file;
+      bases = part (data-start + 2 * F + count) count file;
+      qualities = part (data-start + 2 * F + count + count) count file;
     }
 
--- n reads from the boundary p on
+-- n reads from the boundary at a place on
 unfoldable pub parseReads : List ℕ → ℕ → ℕ → Bool → List Read
-parseReads b zero p passed = []
-parseReads b (suc n) p passed =
-    let at = pastIndex b p passed in
-    parseRead (flows b) b at ∷ parseReads b n (readEnd (flows b) b at) (nowPassed b p passed)
+parseReads file zero place passed = []
+parseReads file (suc n) place passed =
+    let at = pastIndex file place passed in
+    parseRead (flows file) file at ∷ parseReads file n (readEnd (flows file) file at) (nowPassed file place passed)
 
 -- header, index and reads
 unfoldable pub parse : List ℕ → File
-parse b = record {
-  flow-characters = flowCharacters b;
-  key = keyCharacters b;
-  index = record { offset = indexOffset b; bytes = part (indexOffset b) (indexLength b) b };
-  reads = parseReads b (readCount b) (headerLength b) false;
+parse file = record {
+  flow-characters = flowCharacters file;
+  key = keyCharacters file;
+  index = record { offset = indexOffset file; bytes = part (indexOffset file) (indexLength file) file };
+  reads = parseReads file (readCount file) (headerLength file) false;
 }

@@ -26,22 +26,24 @@ noRead = record {
 
 -- the read at a position from 0
 abbrev pub readAt : File → ℕ → Read
-readAt f i = getD (f .reads) i noRead
+readAt content position = getD (content .reads) position noRead
 
--- the reads with ws in the place of the one at position i
+-- the reads with new ones in the place of the one at a position
 abbrev pub replaced : ℕ → List Read → List Read → List Read
-replaced i ws rs = take i rs ++ ws ++ drop (suc i) rs
+replaced position new reads = take position reads ++ new ++ drop (suc position) reads
 
 -- where it starts: after the header, the reads before it, and an index that stands no later
 unfoldable pub place : File → ℕ → ℕ
-place f i =
-    let at = length (layoutHeader f) + length (layoutReads (take i (f .reads))) in
-    at + cond (leb (f .index .offset) at) (length (layoutIndex (f .index))) 0
+place content position =
+    let at = length (layoutHeader content) + length (layoutReads (take position (content .reads))) in
+    at + cond (leb (content .index .offset) at) (length (layoutIndex (content .index))) 0
 
--- where it starts, found from the boundary p on: past any index, and past i reads
+-- where it starts, found from a boundary on: past any index, and past as many reads as its position says
 unfoldable pub placeFrom : List ℕ → ℕ → ℕ → Bool → ℕ
-placeFrom b zero p passed = pastIndex b p passed
-placeFrom b (suc i) p passed = placeFrom b i (readEnd (flows b) b (pastIndex b p passed)) (nowPassed b p passed)
+placeFrom file zero boundary passed = pastIndex file boundary passed
+placeFrom file (suc position) boundary passed =
+    placeFrom file position (readEnd (flows file) file (pastIndex file boundary passed))
+    (nowPassed file boundary passed)
 
 unfoldable pub readPlace : List ℕ → ℕ → ℕ
-readPlace b i = placeFrom b i (headerLength b) false
+readPlace file position = placeFrom file position (headerLength file) false

@@ -14,23 +14,25 @@ use Rattle.sff_format.specs.View.{viewAt, bytesIn, viewFirst, viewLast, 
 
 -- "Refusals: the file's, 21": "position not below the number of reads"
 unfoldable pub positionTest : List ℕ → ℕ → Answer
-positionTest b i = fileTest b then when (not (ltb i (readCount b))) 21 0
+positionTest file position = fileTest file then when (not (ltb position (readCount file))) 21 0
 
 -- "the file's, 21, 32": "signal summary with F = 0"
 unfoldable pub signalTest : List ℕ → ℕ → Answer
-signalTest b i = positionTest b i then when (eqb (flows b) 0) 32 0
+signalTest file position = positionTest file position then when (eqb (flows file) 0) 32 0
 
 -- the read at a position, in numbers
 abbrev pub viewOf : List ℕ → ℕ → ReadView
-viewOf b i = viewAt (flows b) b (readPlace b i)
+viewOf file position = viewAt (flows file) file (readPlace file position)
 
 -- "the insert's bases are handed over as a stretch of the caller's own file"; refused, "the stretch is then empty"
 unfoldable pub fileInsert : List ℕ → ℕ → List ℕ
-fileInsert b i = acceptedOr (positionTest b i) (insertIn (viewOf b i) (bytesIn b (viewOf b i .bases))) []
+fileInsert file position =
+    acceptedOr (positionTest file position)
+    (insertIn (viewOf file position) (bytesIn file (viewOf file position .bases))) []
 
 -- its first and last base; refused, those of a read without bases, whose insert is empty
 unfoldable pub fileFirst : List ℕ → ℕ → ℕ
-fileFirst b i = acceptedOr (positionTest b i) (viewFirst (viewOf b i)) 1
+fileFirst file position = acceptedOr (positionTest file position) (viewFirst (viewOf file position)) 1
 
 unfoldable pub fileLast : List ℕ → ℕ → ℕ
-fileLast b i = acceptedOr (positionTest b i) (viewLast (viewOf b i)) 0
+fileLast file position = acceptedOr (positionTest file position) (viewLast (viewOf file position)) 0

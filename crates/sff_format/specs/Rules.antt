@@ -32,21 +32,23 @@ rightLimit n = n
 
 -- "every flow position lies in 1 to F"
 unfoldable pub isFlow : ℕ → ℕ → Bool
-isFlow F x = leb 1 x && leb x F
+isFlow F flow = leb 1 flow && leb flow F
 
--- "Index bytes are increments. The running sum after each base is its flow position": after flow position f, how many
+-- "Index bytes are increments. The running sum after each base is its flow position": after a flow position, how many
 -- of them keep the rule
 unfoldable pub walkRun : ℕ → ℕ → List ℕ → ℕ
-walkRun F f [] = 0
-walkRun F f (x ∷ xs) = oneMore (isFlow F (f + x)) (walkRun F (f + x) xs)
+walkRun F flow [] = 0
+walkRun F flow (increment ∷ increments) =
+    oneMore (isFlow F (flow + increment)) (walkRun F (flow + increment) increments)
 
 -- "Base i is the flow character at its flow, or the letter N"
 unfoldable pub isCall : List ℕ → ℕ → ℕ → Bool
-isCall characters f x = eqb x (getD characters (f - 1) 0) || eqb x 78
+isCall characters flow base = eqb base (getD characters (flow - 1) 0) || eqb base 78
 
--- after flow position f, how many of the bases ys, with the increments xs, keep the rule
+-- after a flow position, how many of the bases, with their increments, keep the rule
 unfoldable pub callRun : List ℕ → ℕ → List ℕ → List ℕ → ℕ
-callRun characters f [] ys = 0
-callRun characters f (x ∷ xs) [] = 0
-callRun characters f (x ∷ xs) (y ∷ ys) =
-    oneMore (isFlow (length characters) (f + x) && isCall characters (f + x) y) (callRun characters (f + x) xs ys)
+callRun characters flow [] bases = 0
+callRun characters flow (increment ∷ increments) [] = 0
+callRun characters flow (increment ∷ increments) (base ∷ bases) =
+    oneMore (isFlow (length characters) (flow + increment) && isCall characters (flow + increment) base)
+    (callRun characters (flow + increment) increments bases)

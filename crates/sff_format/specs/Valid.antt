@@ -12,51 +12,54 @@ use Rattle.sff_format.specs.Model.{Read, File, layoutHeader, layoutReads
 use Rattle.sff_format.specs.Rules.{leftLimit, rightLimit, declared, badIndex, walkRun, callRun}
 
 -- a read of a file with these flow characters
-pub record ValidRead (characters : List ℕ) (r : Read) : Type 0 where
+pub record ValidRead (characters : List ℕ) (read : Read) : Type 0 where
   -- "Name bytes are 33 to 126; a name may be empty"
-  pub name-good : Every isNameByte (r .name)
+  pub name-good : Every isNameByte (read .name)
   -- fields of 2, 4 and 2 bytes
-  pub name-fits : up8 (16 + length (r .name)) < 65536
-  pub bases-fit : length (r .bases) < 4294967296
-  pub clips-fit : Words (r .quality-left ∷ r .quality-right ∷ r .adapter-left ∷ r .adapter-right ∷ [])
+  pub name-fits : up8 (16 + length (read .name)) < 65536
+  pub bases-fit : length (read .bases) < 4294967296
+  pub clips-fit : Words (read .quality-left ∷ read .quality-right ∷ read .adapter-left ∷ read .adapter-right ∷ [])
   -- "No clip field exceeds N"
-  pub quality-left-good : r .quality-left ≤ leftLimit (length (r .bases))
-  pub quality-right-good : r .quality-right ≤ rightLimit (length (r .bases))
-  pub adapter-left-good : r .adapter-left ≤ leftLimit (length (r .bases))
-  pub adapter-right-good : r .adapter-right ≤ rightLimit (length (r .bases))
+  pub quality-left-good : read .quality-left ≤ leftLimit (length (read .bases))
+  pub quality-right-good : read .quality-right ≤ rightLimit (length (read .bases))
+  pub adapter-left-good : read .adapter-left ≤ leftLimit (length (read .bases))
+  pub adapter-right-good : read .adapter-right ≤ rightLimit (length (read .bases))
   -- "F flow values of 2 bytes, N flow index bytes, N bases, N qualities"
-  pub values-count : length (r .values) ≡ length characters
-  pub values-fit : Words (r .values)
-  pub increments-count : length (r .increments) ≡ length (r .bases)
-  pub qualities-count : length (r .qualities) ≡ length (r .bases)
+  pub values-count : length (read .values) ≡ length characters
+  pub values-fit : Words (read .values)
+  pub increments-count : length (read .increments) ≡ length (read .bases)
+  pub qualities-count : length (read .qualities) ≡ length (read .bases)
   -- "every flow position lies in 1 to F": the whole walk keeps the rule
-  pub walk-good : walkRun (length characters) 0 (r .increments) ≡ length (r .increments)
+  pub walk-good : walkRun (length characters) 0 (read .increments) ≡ length (read .increments)
   -- "Base i is the flow character at its flow, or the letter N"
-  pub bases-good : callRun characters 0 (r .increments) (r .bases) ≡ length (r .bases)
+  pub bases-good : callRun characters 0 (read .increments) (read .bases) ≡ length (read .bases)
   -- "Qualities are any byte"
-  pub bytes-good : Bytes (r .increments) × Bytes (r .bases) × Bytes (r .qualities)
+  pub bytes-good : Bytes (read .increments) × Bytes (read .bases) × Bytes (read .qualities)
 
 abbrev pub ValidReads : List ℕ → List Read → Type 0
 ValidReads characters [] = Unit {0}
-ValidReads characters (r ∷ rs) = ValidRead characters r × ValidReads characters rs
+ValidReads characters (read ∷ reads) = ValidRead characters read × ValidReads characters reads
 
 -- "where the offset says, at the end of the header or of a read"
 abbrev pub Boundary : File → ℕ → Type 0
-Boundary f p = (k : ℕ) × (p ≡ length (layoutHeader f) + length (layoutReads (take k (f .reads))))
+Boundary content place =
+    (k : ℕ) × (place ≡ length (layoutHeader content) + length (layoutReads (take k (content .reads))))
 
-pub record Valid (f : File) : Type 0 where
+pub record Valid (content : File) : Type 0 where
   -- "flow and key characters are A, C, G, T"
-  pub characters-good : Every isFlowCharacter (f .flow-characters ++ f .key)
+  pub characters-good : Every isFlowCharacter (content .flow-characters ++ content .key)
   -- fields of 2, 4, 8 and 4 bytes
-  pub header-fits : up8 (31 + length (f .flow-characters) + length (f .key)) < 65536
-  pub count-fits : length (f .reads) < 4294967296
-  pub index-fits : (f .index .offset < 256 ^ 8) × (length (f .index .bytes) < 4294967296) × Bytes (f .index .bytes)
+  pub header-fits : up8 (31 + length (content .flow-characters) + length (content .key)) < 65536
+  pub count-fits : length (content .reads) < 4294967296
+  pub index-fits : (content .index .offset < 256 ^ 8) × (length (content .index .bytes) < 4294967296)
+      × Bytes (content .index .bytes)
   -- not "just one index field is 0, or index length under 8 or not a multiple of 8"
-  pub index-good : badIndex (f .index .offset) (length (f .index .bytes)) ≡ false
+  pub index-good : badIndex (content .index .offset) (length (content .index .bytes)) ≡ false
   -- an index stands "at the end of the header or of a read"
-  pub index-met : declared (f .index .offset) (length (f .index .bytes)) ≡ true → Boundary f (f .index .offset)
-  pub reads-good : ValidReads (f .flow-characters) (f .reads)
+  pub index-met : declared (content .index .offset) (length (content .index .bytes)) ≡ true
+      → Boundary content (content .index .offset)
+  pub reads-good : ValidReads (content .flow-characters) (content .reads)
 
 -- "keeps the SFF rules": the bytes are such a file, written afresh
 abbrev pub IsFile : List ℕ → Type 0
-IsFile b = (f : File) × Valid f × (layout f ≡ b)
+IsFile file = (content : File) × Valid content × (layout content ≡ file)

@@ -14,31 +14,34 @@ use Rattle.sff_format.specs.FileTest.{pastIndex, nowPassed, fileTest}
 
 -- where a walk starts: at the header's end
 abbrev pub firstBoundary : List ℕ → Boundary
-firstBoundary b = record { place = headerLength b; passed = false }
+firstBoundary file = record { place = headerLength file; passed = false }
 
 -- where the next read starts: "an index declared there and not yet passed is passed .., to the boundary at its end"
 abbrev pub readStart : List ℕ → Boundary → Boundary
-readStart b at = record { place = pastIndex b (at .place) (at .passed); passed = nowPassed b (at .place) (at .passed) }
+readStart file at = record {
+  place = pastIndex file (at .place) (at .passed);
+  passed = nowPassed file (at .place) (at .passed);
+}
 
 -- the boundary at the end of a read, from the one where it starts
 abbrev pub nextBoundary : List ℕ → Boundary → Boundary
-nextBoundary b at = record { place = readEnd (flows b) b (at .place); passed = at .passed }
+nextBoundary file at = record { place = readEnd (flows file) file (at .place); passed = at .passed }
 
 -- the boundary after k reads, and where the next starts
 unfoldable pub boundaryAfter : List ℕ → ℕ → Boundary
-boundaryAfter b zero = firstBoundary b
-boundaryAfter b (suc k) = nextBoundary b (readStart b (boundaryAfter b k))
+boundaryAfter file zero = firstBoundary file
+boundaryAfter file (suc k) = nextBoundary file (readStart file (boundaryAfter file k))
 
 abbrev pub startAfter : List ℕ → ℕ → Boundary
-startAfter b k = readStart b (boundaryAfter b k)
+startAfter file k = readStart file (boundaryAfter file k)
 
 -- the boundary at the start of a read whose place is known: the index is passed if it stands before
 abbrev pub boundaryAt : List ℕ → ℕ → Boundary
-boundaryAt b p = record { place = p; passed = declared (indexOffset b) (indexLength b) && ltb (indexOffset b) p }
+boundaryAt file place = record { place = place; passed = declared (indexOffset file) (indexLength file) && ltb (indexOffset file) place }
 
 -- k reads of an accepted file are behind a boundary: past any index it is where the next one starts
-pub record Walk (b : List ℕ) (k : ℕ) (at : Boundary) : Type 0 where
-  pub accepted : fileTest b ≡ Accepted
-  pub behind : k ≤ readCount b
-  pub inside : at .place ≤ length b
-  pub stands : readStart b at ≡ startAfter b k
+pub record Walk (file : List ℕ) (k : ℕ) (at : Boundary) : Type 0 where
+  pub accepted : fileTest file ≡ Accepted
+  pub behind : k ≤ readCount file
+  pub inside : at .place ≤ length file
+  pub stands : readStart file at ≡ startAfter file k

@@ -23,7 +23,7 @@ use Rattle.sff_format.specs.Places.{readAt}
 
 -- "also answers the file's length afterwards (the length given if nothing is done; 0 for a refused new file)"
 abbrev pub outcome : Answer → ℕ → ℕ → Outcome
-outcome a given new = record { answer = a; length = acceptedOr a new given }
+outcome answer given new = record { answer = answer; length = acceptedOr answer new given }
 
 -- "A new file has zero reads and no index"
 abbrev pub newFile : List ℕ → List ℕ → File
@@ -66,38 +66,40 @@ badCounts F values increments bases qualities =
 -- a read for a file with these flow characters: counts (30), name length (5), name byte (6), clips (9), walk (10), base
 -- (11)
 unfoldable pub givenTest : List ℕ → Read → Answer
-givenTest characters r =
-    when (badCounts (length characters) (length (r .values)) (length (r .increments)) (length (r .bases)) (length (r .qualities))) 30 0
-    then when (ltb 65512 (length (r .name))) 5 0
-    then when (fails isNameByte (r .name)) 6 0
-    then own (clipTest 0 (length (r .bases)) (r .quality-left) (r .quality-right) (r .adapter-left) (r .adapter-right))
-    then own (basesTest characters (r .increments) (r .bases))
+givenTest characters read =
+    when (badCounts (length characters) (length (read .values)) (length (read .increments))
+    (length (read .bases)) (length (read .qualities))) 30 0
+    then when (ltb 65512 (length (read .name))) 5 0
+    then when (fails isNameByte (read .name)) 6 0
+    then own (clipTest 0 (length (read .bases)) (read .quality-left) (read .quality-right)
+    (read .adapter-left) (read .adapter-right))
+    then own (basesTest characters (read .increments) (read .bases))
 
 -- the file's own refusal; "25 an index is present; 31 reads already 4,294,967,295"
 unfoldable pub openTest : List ℕ → Answer
-openTest b =
-    fileTest b
-    then when (declared (indexOffset b) (indexLength b)) 25 0
-    then when (eqb (readCount b) 4294967295) 31 0
+openTest file =
+    fileTest file
+    then when (declared (indexOffset file) (indexLength file)) 25 0
+    then when (eqb (readCount file) 4294967295) 31 0
 
 -- "Appending takes a buffer, the file's length in it and one read. Order: 14 length stated above the buffer; the file's
 -- own refusal; 25 an index is present; 31 reads already 4,294,967,295; 30 ..; 5 ..; 6; 9; 10; 11; 26 new length above
 -- the buffer"
 unfoldable pub appendTest : List ℕ → ℕ → Read → Answer
-appendTest buffer len r =
-    let b = take len buffer in
+appendTest buffer len read =
+    let file = take len buffer in
     when (ltb (length buffer) len) 14 0
-    then openTest b
-    then givenTest (flowCharacters b) r
-    then when (ltb (length buffer) (len + length (layoutRead r))) 26 0
+    then openTest file
+    then givenTest (flowCharacters file) read
+    then when (ltb (length buffer) (len + length (layoutRead read))) 26 0
 
 unfoldable pub appendOutcome : List ℕ → ℕ → Read → Outcome
-appendOutcome buffer len r = outcome (appendTest buffer len r) len (len + length (layoutRead r))
+appendOutcome buffer len read = outcome (appendTest buffer len read) len (len + length (layoutRead read))
 
 -- "A refusal changes nothing. Success writes the new sections and, when appending, the count at 20; no other byte"
 unfoldable pub appendBuffer : List ℕ → ℕ → Read → List ℕ
-appendBuffer buffer len r =
-    acceptedOr (appendTest buffer len r) (putAt 20 (bytesOf 4 (readCount (take len buffer) + 1)) (putAt len (layoutRead r) buffer)) buffer
+appendBuffer buffer len read =
+    acceptedOr (appendTest buffer len read) (putAt 20 (bytesOf 4 (readCount (take len buffer) + 1)) (putAt len (layoutRead read) buffer)) buffer
 
 -- what a writer leaves: its answer and the buffer
 pub record Left : Type 0 where
@@ -108,33 +110,36 @@ abbrev pub newIn : List ℕ → List ℕ → List ℕ → Left
 newIn buffer flow-characters key = record { outcome = newOutcome buffer flow-characters key; buffer = newBuffer buffer flow-characters key }
 
 abbrev pub appendTo : Left → Read → Left
-appendTo w r = record { outcome = appendOutcome (w .buffer) (w .outcome .length) r; buffer = appendBuffer (w .buffer) (w .outcome .length) r }
+appendTo left read = record {
+  outcome = appendOutcome (left .buffer) (left .outcome .length) read;
+  buffer = appendBuffer (left .buffer) (left .outcome .length) read;
+}
 
 -- an append for each read, up to one that is refused
 unfoldable pub appendEach : Left → List Read → Left
-appendEach w [] = w
-appendEach w (r ∷ rs) = acceptedOr (w .outcome .answer) (appendEach (appendTo w r) rs) w
+appendEach left [] = left
+appendEach left (read ∷ reads) = acceptedOr (left .outcome .answer) (appendEach (appendTo left read) reads) left
 
 -- "a new file and an append for each read"
 unfoldable pub writeEach : List ℕ → File → Left
-writeEach buffer f = appendEach (newIn buffer (f .flow-characters) (f .key)) (f .reads)
+writeEach buffer content = appendEach (newIn buffer (content .flow-characters) (content .key)) (content .reads)
 
 -- an accepted file with these flow characters that holds the read
-pub record Holder (characters : List ℕ) (r : Read) : Type 0 where
+pub record Holder (characters : List ℕ) (read : Read) : Type 0 where
   pub file : List ℕ
   pub bytes : Bytes file
   pub accepted : fileTest file ≡ Accepted
   pub characters-same : flowCharacters file ≡ characters
   pub position : ℕ
   pub inside : position < readCount file
-  pub holds : readAt (parse file) position ≡ r
+  pub holds : readAt (parse file) position ≡ read
 
 -- what slices of bytes and of 16-bit numbers can hold
-pub record Lent (r : Read) : Type 0 where
-  pub clips-fit : Words (r .quality-left ∷ r .quality-right ∷ r .adapter-left ∷ r .adapter-right ∷ [])
-  pub values-fit : Words (r .values)
-  pub bytes-good : Bytes (r .increments) × Bytes (r .bases) × Bytes (r .qualities)
+pub record Lent (read : Read) : Type 0 where
+  pub clips-fit : Words (read .quality-left ∷ read .quality-right ∷ read .adapter-left ∷ read .adapter-right ∷ [])
+  pub values-fit : Words (read .values)
+  pub bytes-good : Bytes (read .increments) × Bytes (read .bases) × Bytes (read .qualities)
 
 abbrev pub AllLent : List Read → Type 0
 AllLent [] = Unit {0}
-AllLent (r ∷ rs) = Lent r × AllLent rs
+AllLent (read ∷ reads) = Lent read × AllLent reads

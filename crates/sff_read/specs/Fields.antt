@@ -5,11 +5,11 @@ use mathlib.Core.List.{List}
 use Rattle.sff_format.specs.ReadTest.{baseCount, qualityLeft, qualityRight, adapterLeft, adapterRight}
 use Rattle.sff_read.specs.declared.inner.ReadFields.{ReadFields}
 
--- r holds the fields of the read at place p, each below its width's limit
-pub record FieldsAt (b : List ℕ) (p : ℕ) (r : ReadFields) : Type 0 where
-  pub bases-are : r .bases ≡ baseCount b p
-  pub quality-left-is : r .«quality_left» .0 ≡ qualityLeft b p
-  pub quality-right-is : r .«quality_right» .0 ≡ qualityRight b p
-  pub adapter-left-is : r .«adapter_left» .0 ≡ adapterLeft b p
-  pub adapter-right-is : r .«adapter_right» .0 ≡ adapterRight b p
-  pub bases-small : r .bases < 4294967296
+-- these are the fields of the read at a place, each below its width's limit
+pub record FieldsAt (file : List ℕ) (place : ℕ) (fields : ReadFields) : Type 0 where
+  pub bases-are : fields .bases ≡ baseCount file place
+  pub quality-left-is : fields .«quality_left» .0 ≡ qualityLeft file place
+  pub quality-right-is : fields .«quality_right» .0 ≡ qualityRight file place
+  pub adapter-left-is : fields .«adapter_left» .0 ≡ adapterLeft file place
+  pub adapter-right-is : fields .«adapter_right» .0 ≡ adapterRight file place
+  pub bases-small : fields .bases < 4294967296

@@ -6,7 +6,11 @@ use Rattle.sff_reader.specs.declared.Step.{Step}
 use Rattle.sff_reader.specs.declared.Step.the-variants.{Found, Stopped}
 
 abbrev pub stateOf : Reader → State
-stateOf r = record { place = r .place; passed-reads = r .«passed_reads»; passed-index = r .«passed_index» }
+stateOf reader = record {
+  place = reader .place;
+  passed-reads = reader .«passed_reads»;
+  passed-index = reader .«passed_index»;
+}
 
 abbrev pub stepOf : Step → format.Step
 stepOf (Found view next) = found view (stateOf next)

@@ -10,10 +10,10 @@ use Rattle.sff_correction.specs.declared.Fields.{Fields}
 use Rattle.sff_correction.specs.Record.{recordTest}
 use Rattle.sff_correction.specs.Fields.{FieldsOf}
 
--- an accepted file b, and the fields x of a well-formed record r: the file has a read at their position
-pub record Found (b r : List ℕ) (x : Fields) : Type 0 where
-  pub bytes : Bytes b
-  pub accepted : fileTest b ≡ Accepted
-  pub formed : recordTest r ≡ Accepted
-  pub fields-of : FieldsOf x r
-  pub below : x .position < readCount b
+-- an accepted file, and the fields of a well-formed record: the file has a read at their position
+pub record Found (file «record» : List ℕ) (fields : Fields) : Type 0 where
+  pub bytes : Bytes file
+  pub accepted : fileTest file ≡ Accepted
+  pub formed : recordTest «record» ≡ Accepted
+  pub fields-of : FieldsOf fields «record»
+  pub below : fields .position < readCount file

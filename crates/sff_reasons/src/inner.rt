@@ -35,7 +35,7 @@ use sff_walk::BasePosition;
 // Whether the read at p has the name.
 fn has_name(s: &[u8], p: usize, name: &[u8]) -> bool
     requires { ⌜ p + 16 + nameLength (now s) p ≤ length (now s) ⌝ }
-    ensures { λ t. ⌜ t ≡ same (now (name .entry)) (part (p + 16) (nameLength (now (s .entry)) p) (now (s .entry))) ⌝ }
+    ensures { λ r. ⌜ r ≡ same (now (name .entry)) (part (p + 16) (nameLength (now (s .entry)) p) (now (s .entry))) ⌝ }
 {
     if name.len() != get16(s, p + 2) {
         return false;
@@ -46,7 +46,7 @@ fn has_name(s: &[u8], p: usize, name: &[u8]) -> bool
 // Whether a read has the name, but for the one at the position.
 fn bears(s: &[u8], position: usize, name: &[u8]) -> bool
     requires { ⌜ fileTest (now s) ≡ Accepted ⌝ }
-    ensures { λ t. ⌜ t ≡ bears (now (name .entry)) (replaced position [] (parse (now (s .entry)) .reads)) ⌝ }
+    ensures { λ r. ⌜ r ≡ bears (now (name .entry)) (replaced position [] (parse (now (s .entry)) .reads)) ⌝ }
 {
     let header = header_fields(s);
     let mut at = first_boundary(s, header);
@@ -65,7 +65,7 @@ fn bears(s: &[u8], position: usize, name: &[u8]) -> bool
 // 21: the position is not below the number of reads.
 pub fn position_above(s: &[u8], fields: Fields, record: &[u8]) -> bool
     requires { ⌜ fileTest (now s) ≡ Accepted ⌝ }
-    ensures { λ t. ⌜ ((room : ℕ) → t ≡ positionAbove room (asked fields (now («record» .entry))) (parse (now (s .entry)))) ⌝ }
+    ensures { λ r. ⌜ ((room : ℕ) → r ≡ positionAbove room (asked fields (now («record» .entry))) (parse (now (s .entry)))) ⌝ }
 {
     if fields.position < get32(s, 20) {
         return false;
@@ -77,7 +77,7 @@ pub fn position_above(s: &[u8], fields: Fields, record: &[u8]) -> bool
 pub fn other_name(s: &[u8], place: usize, fields: Fields, record: &[u8]) -> bool
     requires { ⌜ Found (now s) (now «record») fields ⌝ }
     requires { ⌜ place ≡ readPlace (now s) (fields .position) ⌝ }
-    ensures { λ t. ⌜ ((room : ℕ) → t ≡ otherName room (asked fields (now («record» .entry))) (parse (now (s .entry)))) ⌝ }
+    ensures { λ r. ⌜ ((room : ℕ) → r ≡ otherName room (asked fields (now («record» .entry))) (parse (now (s .entry)))) ⌝ }
 {
     !has_name(s, place, old_name(record, fields))
 }
@@ -85,7 +85,7 @@ pub fn other_name(s: &[u8], place: usize, fields: Fields, record: &[u8]) -> bool
 // 25: a rename or a removal, and the file has an index.
 pub fn index_present(s: &[u8], fields: Fields, record: &[u8]) -> bool
     requires { ⌜ Found (now s) (now «record») fields ⌝ }
-    ensures { λ t. ⌜ ((room : ℕ) → t ≡ indexPresent room (asked fields (now («record» .entry))) (parse (now (s .entry)))) ⌝ }
+    ensures { λ r. ⌜ ((room : ℕ) → r ≡ indexPresent room (asked fields (now («record» .entry))) (parse (now (s .entry)))) ⌝ }
 {
     if fields.kind == 1 {
         return false;
@@ -98,7 +98,7 @@ pub fn index_present(s: &[u8], fields: Fields, record: &[u8]) -> bool
 pub fn clip_above(s: &[u8], place: usize, fields: Fields, record: &[u8]) -> bool
     requires { ⌜ Found (now s) (now «record») fields ⌝ }
     requires { ⌜ place ≡ readPlace (now s) (fields .position) ⌝ }
-    ensures { λ t. ⌜ ((room : ℕ) → t ≡ clipAbove room (asked fields (now («record» .entry))) (parse (now (s .entry)))) ⌝ }
+    ensures { λ r. ⌜ ((room : ℕ) → r ≡ clipAbove room (asked fields (now («record» .entry))) (parse (now (s .entry)))) ⌝ }
 {
     if fields.kind != 1 {
         return false;
@@ -120,7 +120,7 @@ pub fn clip_above(s: &[u8], place: usize, fields: Fields, record: &[u8]) -> bool
 // 24: a rename to a name that another read bears.
 pub fn name_borne(s: &[u8], fields: Fields, record: &[u8]) -> bool
     requires { ⌜ Found (now s) (now «record») fields ⌝ }
-    ensures { λ t. ⌜ ((room : ℕ) → t ≡ nameBorne room (asked fields (now («record» .entry))) (parse (now (s .entry)))) ⌝ }
+    ensures { λ r. ⌜ ((room : ℕ) → r ≡ nameBorne room (asked fields (now («record» .entry))) (parse (now (s .entry)))) ⌝ }
 {
     if fields.kind != 2 {
         return false;
@@ -133,7 +133,7 @@ pub fn no_room(s: &[u8], room: usize, place: usize, fields: Fields, record: &[u8
     requires { ⌜ Found (now s) (now «record») fields ⌝ }
     requires { ⌜ place ≡ readPlace (now s) (fields .position) ⌝ }
     requires { ⌜ length (now s) ≤ room ⌝ }
-    ensures { λ t. ⌜ t ≡ noRoom room (asked fields (now («record» .entry))) (parse (now (s .entry))) ⌝ }
+    ensures { λ r. ⌜ r ≡ noRoom room (asked fields (now («record» .entry))) (parse (now (s .entry))) ⌝ }
 {
     if fields.kind != 2 {
         return false;
@@ -149,7 +149,7 @@ pub fn reason(s: &[u8], room: usize, place: usize, fields: Fields, record: &[u8]
     requires { ⌜ fields .position < readCount (now s) ⌝ }
     requires { ⌜ place ≡ readPlace (now s) (fields .position) ⌝ }
     requires { ⌜ length (now s) ≤ room ⌝ }
-    ensures { λ a. ⌜ a ≡ reasons room (asked fields (now («record» .entry))) (parse (now (s .entry))) ⌝ }
+    ensures { λ r. ⌜ r ≡ reasons room (asked fields (now («record» .entry))) (parse (now (s .entry))) ⌝ }
 {
     if other_name(s, place, fields, record) {
         return Answer::Refused(22, 0);

@@ -13,7 +13,7 @@ use sff_correction::Fields;
 // The fields of a record, with its own position.
 pub fn record_fields(record: &[u8]) -> Fields
     requires { ⌜ length (now «record») ≡ 96 ⌝ }
-    ensures { λ v. ⌜ v ≡ fieldsAt (position (now («record» .entry))) (now («record» .entry)) ⌝ }
+    ensures { λ r. ⌜ r ≡ fieldsAt (position (now («record» .entry))) (now («record» .entry)) ⌝ }
 {
     Fields {
         kind: record[0],
@@ -30,7 +30,7 @@ pub fn record_fields(record: &[u8]) -> Fields
 // The four clips that kind 1 gives the read, in file order.
 pub fn new_clips_field(record: &[u8]) -> &[u8]
     requires { ⌜ length (now «record») ≡ 96 ⌝ }
-    ensures { λ v. ⌜ now v ≡ part 8 8 (now («record» .entry)) ⌝ }
+    ensures { λ r. ⌜ now r ≡ part 8 8 (now («record» .entry)) ⌝ }
 {
     &record[8..16]
 }
@@ -39,7 +39,7 @@ pub fn new_clips_field(record: &[u8]) -> &[u8]
 pub fn old_name(record: &[u8], fields: Fields) -> &[u8]
     requires { ⌜ recordTest (now «record») ≡ Accepted ⌝ }
     requires { ⌜ FieldsOf fields (now «record») ⌝ }
-    ensures { λ v. ⌜ now v ≡ oldName (now («record» .entry)) ⌝ }
+    ensures { λ r. ⌜ now r ≡ oldName (now («record» .entry)) ⌝ }
 {
     let end = 16 + fields.old_length;
     &record[16..end]
@@ -49,7 +49,7 @@ pub fn old_name(record: &[u8], fields: Fields) -> &[u8]
 pub fn new_name(record: &[u8], fields: Fields) -> &[u8]
     requires { ⌜ recordTest (now «record») ≡ Accepted ⌝ }
     requires { ⌜ FieldsOf fields (now «record») ⌝ }
-    ensures { λ v. ⌜ now v ≡ newName (now («record» .entry)) ⌝ }
+    ensures { λ r. ⌜ now r ≡ newName (now («record» .entry)) ⌝ }
 {
     let end = 56 + fields.new_length;
     &record[56..end]
@@ -58,7 +58,7 @@ pub fn new_name(record: &[u8], fields: Fields) -> &[u8]
 // The same in its field, with the zeros after it.
 pub fn new_name_field(record: &[u8]) -> &[u8]
     requires { ⌜ length (now «record») ≡ 96 ⌝ }
-    ensures { λ v. ⌜ now v ≡ part 56 40 (now («record» .entry)) ⌝ }
+    ensures { λ r. ⌜ now r ≡ part 56 40 (now («record» .entry)) ⌝ }
 {
     &record[56..96]
 }

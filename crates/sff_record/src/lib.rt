@@ -13,7 +13,7 @@ pub mod inner;
 // The n bytes from `at` on are zero.
 fn unused_test(record: &[u8], at: usize, n: usize) -> Answer
     requires { ⌜ at + n ≤ length (now «record») ⌝ }
-    ensures { λ a. ⌜ a ≡ unusedTest at n (now («record» .entry)) ⌝ }
+    ensures { λ r. ⌜ r ≡ unusedTest at n (now («record» .entry)) ⌝ }
 {
     let end = at + n;
     if fails(ByteTest::Zero, &record[at..end]) {
@@ -25,7 +25,7 @@ fn unused_test(record: &[u8], at: usize, n: usize) -> Answer
 // A name of n bytes, with zeros after it, fills the 40 bytes from `at` on.
 fn name_field_test(record: &[u8], at: usize, n: usize) -> Answer
     requires { ⌜ at + 40 ≤ length (now «record») ⌝ }
-    ensures { λ a. ⌜ a ≡ nameFieldTest at n (now («record» .entry)) ⌝ }
+    ensures { λ r. ⌜ r ≡ nameFieldTest at n (now («record» .entry)) ⌝ }
 {
     if n < 1 {
         return Answer::Refused(20, 0);
@@ -43,7 +43,7 @@ fn name_field_test(record: &[u8], at: usize, n: usize) -> Answer
 // New clips, in kind 1 alone.
 fn new_clips_test(record: &[u8]) -> Answer
     requires { ⌜ length (now «record») ≡ 96 ⌝ }
-    ensures { λ a. ⌜ a ≡ newClipsTest (now («record» .entry)) ⌝ }
+    ensures { λ r. ⌜ r ≡ newClipsTest (now («record» .entry)) ⌝ }
 {
     if record[0] == 1 {
         return Answer::Accepted;
@@ -54,7 +54,7 @@ fn new_clips_test(record: &[u8]) -> Answer
 // A new name, in kind 2 alone.
 fn new_name_test(record: &[u8]) -> Answer
     requires { ⌜ length (now «record») ≡ 96 ⌝ }
-    ensures { λ a. ⌜ a ≡ newNameTest (now («record» .entry)) ⌝ }
+    ensures { λ r. ⌜ r ≡ newNameTest (now («record» .entry)) ⌝ }
 {
     if record[0] == 2 {
         return name_field_test(record, 56, wide(record[2]));
@@ -68,7 +68,7 @@ fn new_name_test(record: &[u8]) -> Answer
 
 // The whole test of a correction record.
 pub fn record_test(record: &[u8]) -> Answer
-    ensures { λ a. ⌜ a ≡ recordTest (now («record» .entry)) ⌝ }
+    ensures { λ r. ⌜ r ≡ recordTest (now («record» .entry)) ⌝ }
 {
     if record.len() != 96 {
         return Answer::Refused(20, 0);

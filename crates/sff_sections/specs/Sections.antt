@@ -9,11 +9,13 @@ use Rattle.sff_format.specs.declared.Clips.{Clips}
 
 -- "quality left, quality right, adapter left, adapter right (2 each, in that order)"
 unfoldable pub clipFields : Clips → List (ℕ × ℕ)
-clipFields c = (2, c .«quality_left») ∷ (2, c .«quality_right») ∷ (2, c .«adapter_left») ∷ (2, c .«adapter_right») ∷ []
+clipFields clips =
+    (2, clips .«quality_left») ∷ (2, clips .«quality_right») ∷ (2, clips .«adapter_left») ∷ (2, clips .«adapter_right»)
+    ∷ []
 
 -- "its length (2), name length L (2), bases N (4)", and the clips
 unfoldable pub sectionFields : ℕ → ℕ → Clips → List (ℕ × ℕ)
-sectionFields L N c = (2, up8 (16 + L)) ∷ (2, L) ∷ (4, N) ∷ clipFields c
+sectionFields L N clips = (2, up8 (16 + L)) ∷ (2, L) ∷ (4, N) ∷ clipFields clips
 
 -- "a header section: .., name, zero padding to up8(16+L)", of a read of so many bases
 unfoldable pub headerSection : List ℕ → ℕ → Clips → List ℕ

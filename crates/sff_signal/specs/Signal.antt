@@ -14,30 +14,30 @@ use Rattle.sff_signal.specs.declared.Summary.{Summary}
 -- "the exact sum of stored values"
 unfoldable pub sumOf : List ℕ → ℕ
 sumOf [] = 0
-sumOf (x ∷ xs) = x + sumOf xs
+sumOf (value ∷ values) = value + sumOf values
 
 -- the largest
 unfoldable pub maxOf : List ℕ → ℕ
 maxOf [] = 0
-maxOf (x ∷ xs) = max x (maxOf xs)
+maxOf (value ∷ values) = max value (maxOf values)
 
 -- the smallest; 0 of none, which is never asked
 unfoldable pub minOf : List ℕ → ℕ
 minOf [] = 0
-minOf (x ∷ []) = x
-minOf (x ∷ y ∷ ys) = min x (minOf (y ∷ ys))
+minOf (value ∷ []) = value
+minOf (value ∷ next ∷ values) = min value (minOf (next ∷ values))
 
 -- "each of one division": of two whole numbers, each of them exactly a float
 abbrev pub over : ℕ → ℕ → Float
-over n d = div binary64 (ofInt binary64 (pos n)) (ofInt binary64 (pos d))
+over numerator denominator = div binary64 (ofInt binary64 (pos numerator)) (ofInt binary64 (pos denominator))
 
 -- "Strongest and weakest are the largest and smallest stored value over 100.0; the mean is the exact sum of stored
 -- values over the exact 100F"
 unfoldable pub summaryOf : List ℕ → Summary
-summaryOf xs = record {
-  strongest = over (maxOf xs) 100;
-  weakest = over (minOf xs) 100;
-  mean = over (sumOf xs) (100 * length xs);
+summaryOf values = record {
+  strongest = over (maxOf values) 100;
+  weakest = over (minOf values) 100;
+  mean = over (sumOf values) (100 * length values);
 }
 
 -- 0.0
@@ -50,4 +50,5 @@ zeros = record { strongest = none; weakest = none; mean = none }
 
 -- "Signal summary of a read with F ≥ 1 .. Refusals: the file's, 21, 32; all three are then 0.0"
 unfoldable pub fileSignal : List ℕ → ℕ → Summary
-fileSignal b i = acceptedOr (signalTest b i) (summaryOf (readAt (parse b) i .values)) zeros
+fileSignal file position =
+    acceptedOr (signalTest file position) (summaryOf (readAt (parse file) position .values)) zeros

@@ -13,9 +13,9 @@ use Rattle.text.specs.declared.Written.{Written}
 unfoldable pub orDash : List ℕ → List ℕ
 orDash xs = cond (eqb (length xs) 0) (45 ∷ []) xs
 
--- what a function that puts xs at place `at` of l asks: that there is room for it
-pub record Room (at : ℕ) (xs l : List ℕ) : Type 0 where
-  pub fits : at + length xs ≤ length l
+-- what a function that puts xs at place `at` of a list asks: that there is room for it
+pub record Room (at : ℕ) (xs list : List ℕ) : Type 0 where
+  pub fits : at + length xs ≤ length list
 
 -- the result of a call that puts a text: its answer, and the text, none where it refuses
 pub record Fitted : Type 0 where
@@ -32,7 +32,7 @@ fitted room xs = tested (when (ltb room (length xs)) 26 0) xs
 
 -- what such a call answers
 abbrev pub written : Fitted → Written
-written f = record { answer = f .answer; length = length (f .text) }
+written result = record { answer = result .answer; length = length (result .text) }
 
 -- the number that it may answer with, beside 0
 abbrev pub textNumbers : List ℕ

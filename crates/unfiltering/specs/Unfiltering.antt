@@ -13,7 +13,7 @@ use Rattle.lines.specs.Lines.{refusalLine, tooLong}
 -- "A refusal is one line and nothing else"
 unfoldable pub answered : Answer → List ℕ → List ℕ
 answered Accepted bytes = bytes
-answered (Refused n p) bytes = refusalLine n p
+answered (Refused number place) bytes = refusalLine number place
 
 -- the data, or the refusal, of a call
 abbrev pub textOf : Result → List ℕ
@@ -21,8 +21,8 @@ textOf result = answered (result .answer) (result .bytes)
 
 -- "longer input than 65,536 bytes prints `too long`"
 unfoldable pub unfilterText : ℕ → List ℕ → List ℕ
-unfilterText room b = cond (ltb 65536 (length b)) tooLong (textOf (undo room b))
+unfilterText room block = cond (ltb 65536 (length block)) tooLong (textOf (undo room block))
 
 -- the same by way of two buffers, if the first holds it
 abbrev pub printedBy : List ℕ → List ℕ → List ℕ → Fitted
-printedBy first second b = fitted (length first) (unfilterText (roomOf first second) b)
+printedBy first second block = fitted (length first) (unfilterText (roomOf first second) block)

@@ -1,5 +1,5 @@
--- A header that is refused is the answer; behind one that is accepted `sections_test` gives what the boundaries ask, which
--- is the rest of `fileTest`.
+-- A header that is refused is the answer; behind one that is accepted `sections_test` gives what the boundaries ask,
+-- which is the rest of `fileTest`.
 use Rattle.answers.proofs.Chains.{refuses, accepts}
 use Rattle.sff_format.specs.FileTest.{fileTest}
 use Rattle.sff_format.proofs.HeaderLaws.{fits-31}

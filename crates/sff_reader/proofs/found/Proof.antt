@@ -31,14 +31,9 @@ returns c =
     let after = c .before .before in
     let start = after .before in
     let fields = start .before in
-    found-is
-    _
-    _
-    (at-fields fields .pre)
-    (start .past-index .ensures)
-    (fields .header-fields .ensures .0)
-    (after .next-boundary .ensures)
-    (c .read-view .ensures)
+    let e = at-fields fields .pre in
+    let h = fields .header-fields .ensures .0 in
+    found-is _ _ e (start .past-index .ensures) h (after .next-boundary .ensures) (c .read-view .ensures)
 
 pub found-spec : {M : Type 1} → statement M
 found-spec =

@@ -1,5 +1,5 @@
--- Each `return` follows one test that refuses and others before it that accepted: `stepTest` is the chain of them, whose
--- last test is asked at the boundary past any index, as `past_index` gives it (`step-tested`).
+-- The code makes the tests of `stepTest` in their order: a `return` stands where one refuses, and the end gives the
+-- last one's answer. That one is asked at the boundary past any index, as `past_index` gives it (`step-tested`).
 use Rattle.answers.proofs.Chains.{refusal, onward}
 use Rattle.sff_format.specs.Step.{stepTest}
 use Rattle.sff_format.proofs.HeaderLaws.{fits-31}

@@ -1,5 +1,5 @@
--- Each `return` follows one test that refuses and others before it that accepted: `endTest` is the chain of them, said of
--- the header's fields (`end-tested`).
+-- The code makes the tests of `endTest` in their order: a `return` stands where one refuses, the end where all have
+-- accepted. `end-tested` says them of the header's fields.
 use Rattle.answers.proofs.Chains.{refusal, onward}
 use Rattle.sff.proofs.Sections.{end-tested}
 use borrow.Author.Needs.{needs}

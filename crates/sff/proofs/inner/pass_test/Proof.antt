@@ -1,5 +1,5 @@
--- The code compares the file's length with the index's end, as `passTest` does; the index's length stands in the header's
--- fields, and the room that it takes is what the call gave (`pass-tested`).
+-- The code compares the file's length with the index's end, as `passTest` does; the index's length stands in the
+-- header's fields, and the room that it takes is what the call gave (`pass-tested`).
 use native.Mathlib.Omega.{arith}
 use Rattle.answers.proofs.Chains.{refusal, onward}
 use Rattle.sff_format.proofs.Sizes.{size-most}

@@ -1,4 +1,5 @@
--- A walk over the reads of an accepted file starts at the first boundary, with none behind it: `seek` goes on from there.
+-- A walk over the reads of an accepted file starts at the first boundary, with none behind it: `seek` goes on from
+-- there.
 use borrow.Author.Needs.{needs}
 use Rattle.sff_find.proofs.Chosen.{file-31, walk-first}
 use Rattle.sff_find.proofs.inner.find.Statement.{statement}

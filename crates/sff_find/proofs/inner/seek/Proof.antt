@@ -1,5 +1,5 @@
--- At each turn as many reads are behind the boundary as were passed (`Walk`): past any index the next read begins there,
--- and at the end that is the read at the position.
+-- At each turn as many reads are behind the boundary as were passed (`Walk`): past any index the next read begins
+-- there, and at the end that is the read at the position.
 use Prim.Native.Nat.{_-_, _≤_}
 use mathlib.Core.Path.{_≡_, ap, _∙_}
 use native.Mathlib.Omega.{arith}

@@ -1,20 +1,23 @@
 -- The loop over the boundaries: what is still to be asked decides. Assumes nothing.
-use Prim.Native.Nat.{ℕ, suc, _+_, _-_, _≤_, _<_}
+use Prim.Native.Nat.{ℕ, suc, _+_, _-_, _≤_}
 use mathlib.Core.Path.{_≡_, refl, sym, ap, _∙_}
-use mathlib.Core.Bool.{Bool, true, false}
+use mathlib.Core.Bool.{Bool, true, false, not, _&&_}
 use mathlib.Core.List.{List}
 use native.Mathlib.Omega.{arith}
+use borrow.Author.Needs.{needs}
+use lib.Dec.{ltb}
 use lib.ListN.{length}
 use Rattle.octets.specs.Parts.{part}
 use Rattle.answers.specs.declared.Answer.{Answer}
 use Rattle.answers.specs.declared.Answer.the-variants.{Accepted, Refused}
-use Rattle.answers.specs.Answer.{_then_}
-use Rattle.sff_format.specs.Rules.{indexSize}
+use Rattle.answers.specs.Answer.{when, _then_}
+use Rattle.sff_format.specs.Rules.{declared, indexSize}
 use Rattle.sff_format.specs.HeaderTest.{readCount, headerLength, flows, headerTest}
 use Rattle.sff_format.specs.ReadTest.{readTest, readEnd}
 use Rattle.sff_format.specs.FileTest.{indexDue, indexHere, passTest, endTest, boundaryTest}
 use Rattle.sff_format.proofs.HeaderLaws.{header-fits, header-sized}
-use Rattle.sff_format.proofs.Boundaries.{boundary-end, boundary-read, boundary-index}
+use Rattle.sff_format.proofs.ReadLaid.{fits-16}
+use Rattle.sff_format.proofs.Boundaries.{none-due, boundary-end, boundary-read, boundary-index}
 use Rattle.sff_format.proofs.Indexes.{pass-fits}
 use Rattle.sff_format.proofs.Steps.{read-fits}
 use Rattle.sff_header.specs.declared.Header.{Header}
@@ -25,9 +28,30 @@ use Rattle.sff_header.proofs.Fields.{offset-of, index-length-of, reads-of, leng
 pub characters-fit : (b : List ℕ) → headerTest b ≡ Accepted → 31 + flows b ≤ length b
 characters-fit b e = let f = header-fits b e in let s = header-sized b e in omega arith
 
--- what the code asked of the header's fields, said of the file
-pub due-is : (h : Header) (b : List ℕ) → h ≡ headerOf b → (p : ℕ) (q r : Bool) → r ≡ indexDue (h .«index_offset») (h .«index_length») p q → (t : Bool) → r ≡ t → indexHere b p q ≡ t
-due-is h b e p q r d t f = rw (offset-of h b e, index-length-of h b e) (sym d ∙ f)
+-- the same of the number of flows that the code has
+pub fields-fit : (h : Header) (b : List ℕ) → headerTest b ≡ Accepted → h ≡ headerOf b → 31 + h .flows ≤ length b
+fields-fit h b e f = rw (← (flows-of h b f)) (characters-fit b e)
+
+-- a read that is accepted has its 16 bytes
+pub read-begins : (characters b : List ℕ) (p : ℕ) {a : Answer} → a ≡ readTest characters b p → a ≡ Accepted → p + 16 ≤ length b
+read-begins characters b p e t = fits-16 characters b p (sym e ∙ t)
+
+-- what the code asks of the header's fields, said of the file
+module _ (b : List ℕ) {h : Header} (e : h ≡ headerOf b) where
+  pub due-is : (p : ℕ) (q : Bool) {r t : Bool} → r ≡ indexDue (h .«index_offset») (h .«index_length») p q → r ≡ t → indexHere b p q ≡ t
+  due-is p q d f = rw (offset-of h b e, index-length-of h b e) (sym d ∙ f)
+
+  -- m is the room that the index takes
+  pub pass-tested : (p : ℕ) {m : ℕ} → m ≡ indexSize (h .«index_length»)
+      → {x : Answer} → x ≡ when (ltb (length b) (p + m)) 1 p → x ≡ passTest b p
+  unfolding passTest
+  pass-tested p f g = rw (index-length-of h b e, ← f) g
+
+  pub end-tested : (p : ℕ) (q : Bool) {x : Answer}
+      → x ≡ (when (declared (h .«index_offset») (h .«index_length») && not q) 13 8 then when (ltb p (length b)) 12 p)
+      → x ≡ endTest b p q
+  unfolding endTest
+  end-tested p q f = rw (offset-of h b e, index-length-of h b e) f
 
 -- n reads are left at the boundary p, and what it asks is the whole answer; the code has the header's fields
 pub record Going (h : Header) (b : List ℕ) (whole : Answer) (n p : ℕ) (q : Bool) : Type 0 where
@@ -45,10 +69,10 @@ module _ {h : Header} {b : List ℕ} (e : headerTest b ≡ Accepted) (f : h ≡ 
 
 module _ {h : Header} {b : List ℕ} {w : Answer} {n p : ℕ} {q : Bool} (g : Going h b w n p q) where
   pub going-due : {r t : Bool} → r ≡ indexDue (h .«index_offset») (h .«index_length») p q → r ≡ t → indexHere b p q ≡ t
-  going-due {r} {t} d e = due-is h b (g .fields) p q r d t e
+  going-due = due-is b (g .fields) p q
 
   pub going-characters : 31 + h .flows ≤ length b
-  going-characters = rw (← (flows-of h b (g .fields))) (characters-fit b (g .head))
+  going-characters = fields-fit h b (g .head) (g .fields)
 
   module _ (i : indexHere b p q ≡ true) where
     pub stop-index : {a : Answer} {k z : ℕ} → a ≡ passTest b p → a ≡ Refused k z → a ≡ w
@@ -56,37 +80,59 @@ module _ {h : Header} {b : List ℕ} {w : Answer} {n p : ℕ} {q : Bool} (g : Go
     stop-index e r = sym (g .is ∙ boundary-index b p q i n ∙ rw (← e, r))
 
     -- past the index, which is `size` bytes long
-    module _ (t : passTest b p ≡ Accepted) {size : ℕ} (e : size ≡ indexSize (h .«index_length»)) where
+    module _ {a : Answer} (t : a ≡ passTest b p) (u : a ≡ Accepted) {size : ℕ} (e : size ≡ indexSize (h .«index_length»)) where
       pub past-inside : p + size ≤ length b
-      past-inside = rw (e, ← (index-length-of h b (g .fields))) (pass-fits b p t)
+      past-inside = rw (e, ← (index-length-of h b (g .fields))) (pass-fits b p (sym t ∙ u))
 
-      pub stop-past : {a : Answer} → a ≡ boundaryTest b n (p + size) true → a ≡ w
+      pub stop-past : {x : Answer} → x ≡ boundaryTest b n (p + size) true → x ≡ w
       unfolding _then_
-      stop-past r = r ∙ rw (e, ← (index-length-of h b (g .fields))) (sym (g .is ∙ boundary-index b p q i n ∙ rw t))
+      stop-past r =
+          let passed = sym t ∙ u in
+          r ∙ rw (e, ← (index-length-of h b (g .fields))) (sym (g .is ∙ boundary-index b p q i n ∙ rw passed))
 
   module _ (i : indexHere b p q ≡ false) where
     pub stop-end : {a : Answer} → n ≡ 0 → a ≡ endTest b p q → a ≡ w
     stop-end z e = sym (g .is ∙ ap (λ (m : ℕ). boundaryTest b m p q) z ∙ boundary-end b p q i ∙ sym e)
 
-    module _ (s : 0 < n) where
+    module _ (s : n ≡ 0 → ⊥) where
       one : w ≡ (readTest (part 31 (h .flows) b) b p then boundaryTest b (n - 1) (readEnd (h .flows) b p) q)
       one =
-          let m : n ≡ suc (n - 1) = omega arith in
+          let m : n ≡ suc (n - 1) = omega (arith, s) in
           rw (← (flows-of h b (g .fields))) (g .is ∙ ap (λ (k : ℕ). boundaryTest b k p q) m ∙ boundary-read b p q i (n - 1))
 
-      pub going-read : {x : ℕ} → readTest (part 31 (h .flows) b) b p ≡ Accepted → x ≡ readEnd (h .flows) b p → Going h b w (n - 1) x q
+      pub going-read : {a : Answer} → a ≡ readTest (part 31 (h .flows) b) b p → a ≡ Accepted
+          → {x : ℕ} → x ≡ readEnd (h .flows) b p → Going h b w (n - 1) x q
       unfolding _then_
-      going-read {x} a e =
+      going-read d t e =
+          let passes = sym d ∙ t in
+          let f = flows-of h b (g .fields) in
           rw e
           (
           record {
             head = g .head;
             fields = g .fields;
-            fits = rw (← (flows-of h b (g .fields))) (read-fits b (g .head) p (rw (← (flows-of h b (g .fields))) at a));
-            is = one ∙ rw a;
+            fits = rw (← f) (read-fits b (g .head) p (rw (← f) at passes));
+            is = one ∙ rw passes;
           }
           )
 
       pub stop-read : {a : Answer} {k z : ℕ} → a ≡ readTest (part 31 (h .flows) b) b p → a ≡ Refused k z → a ≡ w
       unfolding _then_
       stop-read e r = sym (one ∙ rw (← e, r))
+
+-- what `search` needs for the loops
+pub ruleset boundaries = (
+  going-start,
+  going-first,
+  going-due,
+  none-due,
+  going-characters,
+  going-read,
+  read-begins,
+  stop-index,
+  past-inside,
+  stop-past,
+  stop-end,
+  stop-read,
+  needs,
+)

@@ -1,5 +1,5 @@
 -- The header's fields by name, and what the first group of tests shows. Assumes nothing.
-use Prim.Native.Nat.{ℕ, _+_, _≤_, _<_}
+use Prim.Native.Nat.{ℕ, _+_, _<_}
 use mathlib.Core.Path.{_≡_, sym, _∙_}
 use mathlib.Core.Bool.{true, false, not}
 use mathlib.Core.List.{List}
@@ -15,14 +15,14 @@ use Rattle.answers.specs.Answer.{when, stopped, _then_}
 use Rattle.answers.proofs.Answers.{second-ok, same-ok}
 use Rattle.answers.proofs.Chains.{differ, same}
 use Rattle.sff_format.specs.Rules.{badIndex}
-use Rattle.sff_format.specs.HeaderTest.{indexOffset, indexLength, readCount, headerLength, keyLength, flows, charactersEnd, fixedTest, charactersTest, headerTest}
-use Rattle.sff_format.proofs.HeaderLaws.{fits-31}
+use Rattle.sff_format.specs.HeaderTest.{indexOffset, indexLength, readCount, headerLength, keyLength, flows}
+use Rattle.sff_format.specs.HeaderTest.{charactersEnd, fixedTest, charactersTest, headerTest}
 use Rattle.sff_header.specs.declared.Header.{Header}
 use Rattle.sff_header.specs.Header.{headerOf}
 
--- a file whose header is accepted has the header's 31 bytes
-pub tested-31 : (b : List ℕ) {x : Answer} → x ≡ headerTest b → x ≡ Accepted → 31 ≤ length b
-tested-31 b e t = fits-31 b (sym e ∙ t)
+-- a test whose answer is acceptance
+pub accepted : (test : Answer) {x : Answer} → x ≡ test → x ≡ Accepted → test ≡ Accepted
+accepted test e t = sym e ∙ t
 
 module _ (h : Header) (b : List ℕ) (e : h ≡ headerOf b) where
   pub offset-of : indexOffset b ≡ h .«index_offset»
@@ -64,7 +64,12 @@ module _ (b : List ℕ) (at y : ℕ) (fits : at < length b) where
 
 -- the tests over the fields as they were read: h the fields, m the characters' end and n that padded
 module _ (b : List ℕ) {h : Header} (e : h ≡ headerOf b) where
-  pub header-tested : {x : Answer} → x ≡ (when (ltb (length b) 31) 1 0 then fixedTest b then when (ltb (length b) (h .length)) 1 0 then charactersTest b) → x ≡ headerTest b
+  pub header-tested : {x : Answer} → x ≡
+      (when (ltb (length b) 31) 1 0
+      then fixedTest b
+      then when (ltb (length b) (h .length)) 1 0
+      then charactersTest b)
+      → x ≡ headerTest b
   unfolding headerTest
   header-tested f = rw (length-of h b e) f
 

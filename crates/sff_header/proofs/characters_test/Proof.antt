@@ -1,5 +1,5 @@
--- Each `return` follows one test that refuses and others before it that accepted: `charactersTest` is the chain of
--- them, said of the fields that the code has read (`characters-tested`).
+-- The code makes the tests of `charactersTest` in their order: a `return` stands where one refuses, the end where all
+-- have accepted. `characters-tested` says them of the fields that the code has read.
 use Rattle.answers.proofs.Chains.{refusal, onward}
 use Rattle.sff_header.proofs.Fields.{characters-tested}
 use borrow.Author.Needs.{needs}

@@ -1,5 +1,5 @@
--- Each `return` follows one test that refuses and others before it that accepted: `fixedTest` is the chain of them.
--- The calls gave the numbers that it compares.
+-- The code makes the tests of `fixedTest` in their order: a `return` stands where one refuses, the end where all have
+-- accepted. The calls gave the numbers that it compares.
 use Rattle.answers.proofs.Chains.{refusal, onward}
 use Rattle.sff_format.specs.HeaderTest.{fixedTest}
 use Rattle.sff_header.proofs.Fields.{byte-differs, byte-is, length-differs, length-is}

@@ -1,5 +1,5 @@
--- Each `return` follows one test that refuses and others before it that accepted: `headerTest` is the chain of them,
--- said of the length that stands in the fields (`header-tested`).
+-- The code makes the tests of `headerTest` in their order: a `return` stands where one refuses, and the end gives the
+-- last one's answer. `header-tested` says them of the length that stands in the fields.
 use Rattle.answers.proofs.Chains.{refusal, onward}
 use Rattle.sff_format.specs.HeaderTest.{headerTest}
 use Rattle.sff_header.proofs.Fields.{length-good, header-tested}

@@ -1,41 +1,39 @@
--- A read starts at the boundary past any index, where the step's tests accepted it.
-use mathlib.Core.Path.{sym}
+-- The step's tests accepted a read at the boundary past any index: so it begins there, one read was left, and the view,
+-- the boundary after it and the counts are what the step says.
 use native.Mathlib.Omega.{arith}
-use borrow.Author.Needs.{needs}
-use Rattle.sff_format.proofs.HeaderLaws.{fits-31}
-use Rattle.sff_header.proofs.Fields.{flows-of, reads-of}
-use Rattle.sff_format.proofs.Steps.{header-accepted, place-inside, one-left}
-use Rattle.sff_reader.proofs.Reading.{found-begins, found-is}
+use Rattle.sff_reader.proofs.Reading.{some-left, found-is, finding}
 use Rattle.sff_reader.proofs.found.Statement.{statement}
 use Rattle.sff_reader.proofs.found.Tie as tie
 
-abbrev given : tie.After-past-index → tie.Start
-given c = c .before .before .before
+-- the start, from where the header's fields are read
+abbrev at-fields : tie.After-header-fields → tie.Start
+at-fields c = c .before .before
+
+header-fields-requires : tie.Need-header-fields-requires
+header-fields-requires c κs = search finding
+
+past-index-requires : tie.Need-past-index-requires
+past-index-requires c κs = search finding
+
+next-boundary-requires : tie.Need-next-boundary-requires
+next-boundary-requires c κs = search finding
 
 add-t9 : tie.Need-add-t9
 add-t9 c =
-    let start = c .before .before in
-    let h = start .before .header-fields in
-    omega (arith, one-left _ _ (given start .pre), reads-of (h .result) _ (h .ensures .0))
+    let fields = c .before .before .before in
+    omega (arith, some-left _ _ (at-fields fields .pre) (fields .header-fields .ensures .0))
+
+read-view-requires : tie.Need-read-view-requires
+read-view-requires c κs = search finding
 
 returns : tie.Need-returns
 returns c =
     let after = c .before .before in
     let start = after .before in
-    let h = start .before .header-fields in
-    found-is _ _ (given start .pre) _ _ _ _ (sym (flows-of (h .result) _ (h .ensures .0))) (start .past-index .ensures) (after .next-boundary .ensures) (c .read-view .ensures)
-
-header-fields-requires : tie.Need-header-fields-requires
-header-fields-requires c κs = fits-31 _ (header-accepted _ _ (c .before .pre))
-
-past-index-requires : tie.Need-past-index-requires
-past-index-requires c κs = let h = c .header-fields .ensures in (h .0, (h .1, place-inside _ _ (c .before .before .pre)))
-
-next-boundary-requires : tie.Need-next-boundary-requires
-next-boundary-requires c κs = let h = c .before .header-fields .ensures in (h .0, (h .1, found-begins _ _ (given c .pre) (c .past-index .ensures)))
-
-read-view-requires : tie.Need-read-view-requires
-read-view-requires c κs = let start = c .before .before in (found-begins _ _ (given start .pre) (start .past-index .ensures), search needs)
+    let fields = start .before in
+    let e = at-fields fields .pre in
+    let h = fields .header-fields .ensures .0 in
+    found-is _ _ e (start .past-index .ensures) h (after .next-boundary .ensures) (c .read-view .ensures)
 
 pub found-spec : {M : Type 1} → statement M
 found-spec =

@@ -1,4 +1,4 @@
--- The index's offset and length stand in the header's fields.
+-- The index's offset and length, of which `boundaryAt` tells whether it is passed, stand in the header's fields.
 use Rattle.sff_header.proofs.Fields.{offset-of, index-length-of}
 use borrow.Author.Needs.{needs}
 use Rattle.sff.proofs.inner.boundary_at.Statement.{statement}

@@ -1,26 +1,19 @@
--- The tests in their order, of the header's fields.
+-- The code makes the tests of `endTest` in their order: a `return` stands where one refuses, the end where all have
+-- accepted. `end-tested` says them of the header's fields.
 use Rattle.answers.proofs.Chains.{refusal, onward}
-use Rattle.sff_format.specs.FileTest.{endTest}
-use Rattle.sff_header.proofs.Fields.{offset-of, index-length-of}
+use Rattle.sff.proofs.Sections.{end-tested}
 use borrow.Author.Needs.{needs}
 use Rattle.sff.proofs.inner.end_test.Statement.{statement}
 use Rattle.sff.proofs.inner.end_test.Tie as tie
 
 returns : tie.Need-returns
-returns c = let s = c .before .before .before in rw (offset-of (s .args .header) _ (s .pre), index-length-of (s .args .header) _ (s .pre)) (search refusal)
+returns c = search (refusal, end-tested)
 
 returns-2 : tie.Need-returns-2
-returns-2 c = let s = c .before .before .before .before in rw (offset-of (s .args .header) _ (s .pre), index-length-of (s .args .header) _ (s .pre)) (search refusal)
+returns-2 c = search (refusal, end-tested)
 
 returns-3 : tie.Need-returns-3
-returns-3 c = let s = c .before .before .before .before in rw (offset-of (s .args .header) _ (s .pre), index-length-of (s .args .header) _ (s .pre)) (search onward)
+returns-3 c = search (onward, end-tested)
 
 pub end-test-spec : {M : Type 1} → statement M
-unfolding endTest
-end-test-spec =
-    tie.close
-    (tie.spec
-    (λ c κs. search needs)
-    returns
-    returns-2
-    returns-3)
+end-test-spec = tie.close (tie.spec (λ c κs. search needs) returns returns-2 returns-3)

@@ -1,4 +1,4 @@
--- The header's length stands in its fields.
+-- The header's length, where `firstBoundary` places it, stands in the header's fields.
 use Rattle.sff_header.proofs.Fields.{length-of}
 use Rattle.sff.proofs.inner.first_boundary.Statement.{statement}
 use Rattle.sff.proofs.inner.first_boundary.Tie as tie

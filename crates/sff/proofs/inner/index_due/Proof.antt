@@ -1,3 +1,4 @@
+-- The call gives `declared`, and the code joins it with the two other conditions as `indexDue` does.
 use Rattle.sff_format.specs.FileTest.{indexDue}
 use borrow.Author.Needs.{needs}
 use Rattle.sff.proofs.inner.index_due.Statement.{statement}

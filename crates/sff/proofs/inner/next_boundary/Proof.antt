@@ -1,4 +1,4 @@
--- The number of flows stands in the header's fields.
+-- The call gives the read's end; the number of flows that it takes stands in the header's fields.
 use Rattle.sff_header.proofs.Fields.{flows-of}
 use borrow.Author.Needs.{needs}
 use Rattle.sff.proofs.inner.next_boundary.Statement.{statement}

@@ -1,5 +1,5 @@
--- Each `return` follows one clip that is above its limit and others before it that are not: `clipTest` is the chain of
--- them in file order. The calls gave the limits.
+-- The code makes the tests of `clipTest` in their order: a `return` stands where one refuses, the end where all have
+-- accepted. The calls gave the limits that the clips are compared with.
 use Rattle.answers.proofs.Chains.{refusal, onward}
 use Rattle.sff_format.specs.ReadTest.{clipTest}
 use borrow.Author.Needs.{needs}

@@ -1,10 +1,11 @@
--- At each turn as many reads are behind the boundary as were passed.
+-- At each turn as many reads are behind the boundary as were passed (`Walk`): past any index the next read begins
+-- there, and at the end that is the read at the position.
 use Prim.Native.Nat.{_-_, _≤_}
 use mathlib.Core.Path.{_≡_, ap, _∙_}
-use Rattle.sff_format.specs.Places.{readPlace}
-use Rattle.sff_format.specs.Walk.{Walk}
 use native.Mathlib.Omega.{arith}
 use borrow.Author.Needs.{needs}
+use Rattle.sff_format.specs.Places.{readPlace}
+use Rattle.sff_format.specs.Walk.{Walk}
 use Rattle.sff_format.proofs.Walks.{walk-place, walk-begins, walk-next}
 use Rattle.sff_find.proofs.inner.seek.Statement.{statement}
 use Rattle.sff_find.proofs.inner.seek.Tie as tie
@@ -16,11 +17,16 @@ abbrev μ-loop : tie.MeasureT-loop
 μ-loop s header behind position at₀ passed₀ at passed = position - passed
 
 next-boundary-requires : tie.Need-next-boundary-requires Inv-loop μ-loop
-next-boundary-requires c κs = let d = c .before .before .before .before in
-    (d .pre .0, (d .pre .1 .0, walk-begins (c .before .before .loop .inv .0) (c .past-index .ensures) (omega arith)))
+next-boundary-requires c κs =
+    let walk = c .before .before .loop .inv .0 in
+    let d = c .before .before .before .before in
+    (d .pre .0, (d .pre .1 .0, walk-begins walk (c .past-index .ensures) (omega arith)))
 
 loop-again : tie.Need-loop-again Inv-loop μ-loop
-loop-again c = (walk-next (c .before .before .before .loop .inv .0) (c .before .past-index .ensures) (omega arith) (c .next-boundary .ensures), omega arith)
+loop-again c =
+    let start = c .before in
+    let walk = start .before .before .loop .inv .0 in
+    (walk-next walk (start .past-index .ensures) (omega arith) (c .next-boundary .ensures), omega arith)
 
 returns : tie.Need-returns Inv-loop μ-loop
 returns c =

@@ -1,5 +1,6 @@
--- Each `return` follows one test that refuses and others before it that accepted: `dataTest` is the chain of them, over
--- the padded length that `up8` gave and the flow characters as they stand in the file (`data-tested`).
+-- The code makes the tests of `dataTest` in their order: a `return` stands where one refuses, the end where all have
+-- accepted. `data-tested` says them of the padded length that `up8` gave and of the flow characters as they stand in
+-- the file.
 use Rattle.answers.proofs.Chains.{refusal, onward}
 use Rattle.sff_read.proofs.ReadLaws.{data-tested}
 use borrow.Author.Needs.{needs}

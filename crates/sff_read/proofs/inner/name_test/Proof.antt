@@ -1,5 +1,5 @@
--- Each `return` follows one test that refuses and others before it that accepted: `nameTest` is the chain of them, over
--- the padded length and the scans' places as the calls gave them.
+-- The code makes the tests of `nameTest` in their order: a `return` stands where one refuses, the end where all have
+-- accepted. The calls gave the padded length and the places that the scans came to.
 use Rattle.answers.proofs.Chains.{refusal, onward}
 use Rattle.sff_format.specs.ReadTest.{nameTest}
 use borrow.Author.Needs.{needs}

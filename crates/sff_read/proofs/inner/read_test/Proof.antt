@@ -1,6 +1,6 @@
--- Each `return` follows one test that refuses and others before it that accepted: `readTest` is the chain of them, over
--- the lengths and the fields as they were read (`read-tested`). A name that is accepted lies in the file whole, so the
--- data section starts in it.
+-- The code makes the tests of `readTest` in their order: a `return` stands where one refuses, and the end gives the
+-- last one's answer. `read-tested` says them of the lengths and the fields as they were read. A name that is accepted
+-- lies in the file whole, so the data section starts in it.
 use Rattle.answers.proofs.Chains.{refusal, onward}
 use Rattle.sff_format.specs.ReadTest.{readTest}
 use Rattle.sff_read.proofs.ReadLaws.{name-fits, read-tested}

@@ -1,3 +1,4 @@
+-- The call gives the place; the rest of a fresh state is the same for every file.
 use Rattle.sff_format.specs.Step.{fresh}
 use borrow.Author.Needs.{needs}
 use Rattle.sff_reader.proofs.Reader.fresh.Statement.{statement}

@@ -1,7 +1,7 @@
 -- At each turn both tests still seek, from this base on, what they sought from the first (`Matched`). So each of the
 -- three breaks yields `callRun`, with the flow position there (`Stopped`). At the end both tests are through. Else the
 -- walk breaks at that place, or `walk_stop` gives `walkRun` from the next base on: `basesTest` is made of these two.
-use Prim.Native.Nat.{_+_, _-_, _≤_}
+use Prim.Native.Nat.{_+_, _-_}
 use mathlib.Core.Logic.{⊎-elim}
 use mathlib.Core.Path.{_≡_, sym, _∙_}
 use native.Mathlib.Omega.{arith}

@@ -5,7 +5,7 @@ use mathlib.Core.Bool.{Bool, true}
 use mathlib.Core.List.{List}
 use native.Mathlib.Omega.{arith}
 use native.Mathlib.Numerals.{add-one}
-use borrow.Author.Tests.{lt-ltb, le-ltb}
+use borrow.Author.Tests.{lt-ltb}
 use lib.ListN.{length, take}
 use Rattle.octets.specs.Numbers.{Bytes}
 use Rattle.octets.proofs.AllBytes.{bytes-take}
@@ -17,7 +17,7 @@ use Rattle.answers.proofs.Rows.{row-holds}
 use Rattle.sff_format.specs.HeaderTest.{readCount}
 use Rattle.sff_format.specs.FileTest.{fileTest}
 use Rattle.sff_format.specs.Parse.{parse}
-use Rattle.sff_format.specs.Places.{place, readPlace}
+use Rattle.sff_format.specs.Places.{readPlace}
 use Rattle.sff_format.proofs.FileLaid.{reads-counted}
 use Rattle.sff_format.proofs.Written.{layout-bytes}
 use Rattle.sff_format.proofs.Places.{place-found}

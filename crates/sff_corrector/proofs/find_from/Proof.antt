@@ -1,4 +1,4 @@
--- Each start has a walk of its own, and a known read's mark is what `find_on` asks for.
+-- Each start has a walk of its own: from the header `find`, and from a known read `find_on`, which asks for its mark.
 use borrow.Author.Needs.{needs}
 use Rattle.sff_corrector.proofs.find_from.Statement.{statement}
 use Rattle.sff_corrector.proofs.find_from.Tie as tie

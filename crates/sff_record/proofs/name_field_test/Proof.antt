@@ -1,4 +1,5 @@
--- The tests in their order, each by what the call before it gave.
+-- The tests stand in the definition's order: at each `return` those before it have passed and this one decides. The
+-- zeros behind a name of n bytes are 40 - n.
 use Rattle.answers.proofs.Chains.{refusal, onward}
 use Rattle.sff_correction.specs.Record.{nameFieldTest}
 use Rattle.sff_record.proofs.Reasons.{stretch, zeros-after}

@@ -1,4 +1,4 @@
--- The kind decides, as in the definition.
+-- Kind 1 may have any clips; in the others their eight bytes are zero.
 use borrow.Author.Tests.{eq-eqb, ne-eqb}
 use Rattle.sff_correction.specs.Record.{newClipsTest}
 use Rattle.sff_record.proofs.Reasons.{used, unused}

@@ -1,4 +1,4 @@
--- The kind decides, as in the definition; the name's length is the byte that was read.
+-- In kind 2 the name is tested, by the length that was read; in the others its length and its field are zero.
 use borrow.Author.Tests.{eq-eqb, ne-eqb}
 use Rattle.answers.proofs.Chains.{refuses, accepts}
 use Rattle.sff_correction.specs.Record.{newNameTest}

@@ -1,4 +1,5 @@
--- The tests in their order, each by what the call before it gave; the old name's length is the byte that was read.
+-- The tests stand in the definition's order: at each `return` those before it have passed and this one decides. The
+-- old name's length is the byte that was read.
 use Rattle.answers.proofs.Chains.{refusal, onward}
 use Rattle.sff_correction.specs.Record.{recordTest}
 use Rattle.sff_record.proofs.Reasons.{name-refuses, name-accepts}

@@ -1,4 +1,4 @@
--- The one test, by what the scan of the bytes gave.
+-- The scan is of the bytes from `at` to `at` + n, which are the n that the definition asks for.
 use Rattle.answers.proofs.Chains.{refusal, onward}
 use Rattle.sff_correction.specs.Record.{unusedTest}
 use Rattle.sff_record.proofs.Reasons.{stretch}

@@ -1,5 +1,5 @@
--- The tests in their order, each by what the call before it gave. A file that is open has its header's bytes, and a
--- read that is not refused small counts.
+-- The tests stand in the definition's order: at each `return` those before it have passed and this one decides. A file
+-- that takes reads has its header's bytes, and the counts of a read that is not refused are bounded.
 use mathlib.Core.Path.{sym}
 use native.Mathlib.Omega.{arith}
 use lib.Seq.{length-take-le}

@@ -1,4 +1,5 @@
--- The tests in their order, each by what the call before it gave. Good counts bound the bases.
+-- The tests stand in the definition's order: at each `return` those before it have passed and this one decides. Good
+-- counts bound the bases, as the tests of the clips and of the bases ask.
 use Prim.Native.Nat.{_<_}
 use mathlib.Core.Path.{_≡_, sym, _∙_}
 use lib.ListN.{length}
@@ -10,7 +11,7 @@ use borrow.Author.Needs.{needs}
 use Rattle.sff_writer.proofs.given_test.Statement.{statement}
 use Rattle.sff_writer.proofs.given_test.Tie as tie
 
--- the places: the start, and the counts are good, from where the name is
+-- the places: the start, from where the counts are tested; the counts are good, from where the name is
 abbrev start : tie.After-bad-counts → tie.Start
 start c = let known = c .before .before .before in known .before .before .before .before
 

@@ -1,4 +1,5 @@
--- A new file that is not refused is small and has room; its bytes and its length are what the calls gave.
+-- A new file that is refused leaves the buffer; one that is not fits into it, and its bytes and its length are what the
+-- two calls gave.
 use Rattle.sff_writer.proofs.Reasons.{new-refused, new-small, new-room, new-done}
 use borrow.Author.Needs.{needs}
 use Rattle.sff_writer.proofs.new_file.Statement.{statement}

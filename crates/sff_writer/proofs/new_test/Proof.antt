@@ -1,4 +1,5 @@
--- The tests in their order, each by what the calls before it gave.
+-- The tests stand in the definition's order: at each `return` those before it have passed and this one decides. The
+-- two tests of the lengths are the definition's one of their sum.
 use Rattle.answers.proofs.Chains.{refusal, onward, over-first, over-second, not-over}
 use Rattle.sff_format.specs.Writing.{newTest}
 use Rattle.sff_writer.proofs.Reasons.{either-told, new-over, new-within}

@@ -1,4 +1,5 @@
--- The tests in their order, each by what the call before it gave. An accepted file has the header's bytes.
+-- The tests stand in the definition's order: at each `return` those before it have passed and this one decides. An
+-- accepted file has the bytes of the header's fields.
 use mathlib.Core.Path.{sym, _∙_}
 use Rattle.answers.proofs.Chains.{refusal, onward}
 use Rattle.sff_format.specs.Writing.{openTest}

@@ -1,4 +1,5 @@
--- The edit of each kind leaves the file written afresh, by InPlace over what is known at the start.
+-- The edit of each kind leaves the bytes of the edited file written afresh: InPlace says so from what is known at the
+-- start.
 use mathlib.Core.Path.{sym, ap, _∙_}
 use native.Mathlib.Omega.{arith}
 use lib.ListN.{length}

@@ -1,4 +1,5 @@
--- The promises of the splice and of the two writes, one after another.
+-- The name is spliced in with its padding, and the two lengths that precede it, put one behind the other, are the one
+-- write of the definition.
 use native.Mathlib.Omega.{arith}
 use Rattle.sff_edit.proofs.InPlace.{name-put}
 use borrow.Author.Needs.{needs}

@@ -1,4 +1,4 @@
--- The promises of the cut and of the write, one after the other.
+-- The read is cut out, and the count that was read before the cut is put, less one: as the definition has it.
 use Rattle.sff_edit.proofs.InPlace.{read-cut}
 use borrow.Author.Needs.{needs}
 use Rattle.sff_edit.proofs.inner.take_out.Statement.{statement}

@@ -1,4 +1,4 @@
--- The new name is looked for among the reads at other positions.
+-- Only a rename gives a name, and it is looked for among the reads at the other positions.
 use Rattle.sff_reasons.proofs.Told.{none-borne, borne-told}
 use borrow.Author.Needs.{needs}
 use Rattle.sff_reasons.proofs.inner.name_borne.Statement.{statement}

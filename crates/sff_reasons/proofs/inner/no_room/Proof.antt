@@ -1,4 +1,4 @@
--- Only the header section of a renamed read may need more room than there is.
+-- Only a rename may need more room, and what it needs is what the read's header section grows by.
 use native.Mathlib.Omega.{arith}
 use Rattle.sff_reasons.proofs.Told.{found-lengths, found-begins, found-section, room-kept, room-told}
 use borrow.Author.Needs.{needs}

@@ -1,4 +1,4 @@
--- The read at the place is the one that the record names.
+-- The read at the place is the one at the record's position, and its name is compared with the record's old name.
 use Rattle.sff_reasons.proofs.Told.{found-name, name-told}
 use borrow.Author.Needs.{needs}
 use Rattle.sff_reasons.proofs.inner.other_name.Statement.{statement}

@@ -1,4 +1,4 @@
--- Each field is read where it stands.
+-- Each field is read from the place in the record where the definition has it.
 use borrow.Author.Needs.{needs}
 use Rattle.sff_record.proofs.inner.record_fields.Statement.{statement}
 use Rattle.sff_record.proofs.inner.record_fields.Tie as tie

@@ -1,4 +1,4 @@
--- Four fields of two bytes, in file order, each behind the one before it.
+-- Four fields of two bytes, each behind the one before it, are the clips in file order.
 use Rattle.sff_sections.proofs.Pieces.{clips-put}
 use borrow.Author.Needs.{needs}
 use Rattle.sff_sections.proofs.inner.put_clips.Statement.{statement}

@@ -1,4 +1,4 @@
--- The four parts in file order, each behind the one before it, and zeros behind them.
+-- The four lists in file order, each behind the one before it, and zeros behind them are the data section.
 use Rattle.sff_sections.proofs.Pieces.{data-put}
 use borrow.Author.Needs.{needs}
 use Rattle.sff_sections.proofs.inner.put_read_data.Statement.{statement}

@@ -47,7 +47,9 @@ module _ (b out : List ℕ) where
     raw-fits = let n : length (undone Raw b) ≡ length b - 1 = ap length raw-is ∙ length-drop 1 b in (o .1, omega (arith, n, o .3))
 
     pub raw-put : (out' : List ℕ) → out' ≡ putAt 0 (part 1 (length b - 1) b) out → Put Raw b (length b - 1) out out'
-    raw-put out' h = put-as Raw b (drop 1 b) out out' (length b - 1) raw-is (sym (length-drop 1 b)) (h ∙ ap (λ (xs : List ℕ). putAt 0 xs out) (part-end 1 b))
+    raw-put out' h =
+        let put = h ∙ ap (λ (xs : List ℕ). putAt 0 xs out) (part-end 1 b) in
+        put-as Raw b (drop 1 b) out out' (length b - 1) raw-is (sym (length-drop 1 b)) put
 
   -- formats 64, 65 and 66
   module _ (w start : ℕ) (o : Opens (Delta w) b (length out)) (e : start ≡ headerLength (Delta w)) where
@@ -67,21 +69,28 @@ module _ (b out : List ℕ) where
         let l : length s ≡ length (dataAt (Delta w) b) = ap length same in
         (o .0, ap (λ (n : ℕ). n % w) l ∙ whole, omega (arith, n, l, o .3))
 
-    pub delta-put : (level : ℕ) (out' : List ℕ) → level ≡ levelAt b → out' ≡ putAt 0 (undeltaBytes w level s) out → Put (Delta w) b (length b - start) out out'
+    pub delta-put : (level : ℕ) (out' : List ℕ) → level ≡ levelAt b → out' ≡ putAt 0 (undeltaBytes w level s) out
+        → Put (Delta w) b (length b - start) out out'
     unfolding undone decoded
     delta-put level out' l h =
         let xs : undone (Delta w) b ≡ undeltaBytes w level s = rw (l, same) in
-        let n : length (undone (Delta w) b) ≡ length (dataAt (Delta w) b) = length-delta-undone (levelAt b) (followAt b) (dataAt (Delta w) b) w (o .0) whole in
-        let d : length (dataAt (Delta w) b) ≡ length b - start = length-drop (headerLength (Delta w)) b ∙ ap (λ (k : ℕ). length b - k) (sym e) in
+        let n : length (undone (Delta w) b) ≡ length (dataAt (Delta w) b) =
+        length-delta-undone (levelAt b) (followAt b) (dataAt (Delta w) b) w (o .0) whole in
+        let d : length (dataAt (Delta w) b) ≡ length b - start =
+        length-drop (headerLength (Delta w)) b ∙ ap (λ (k : ℕ). length b - k) (sym e) in
         (sym (n ∙ d), h ∙ ap (λ (t : List ℕ). putAt 0 t out) (sym xs))
 
   -- formats 70 and 71
   module _ (w : ℕ) (o : Opens (Narrow w) b (length out)) where
-    narrow-is : undone (Narrow w) b ≡ widen w 0 (part 1 (length b - 1) b)
+    -- the bytes behind the format byte
+    abbrev behind : List ℕ
+    behind = part 1 (length b - 1) b
+
+    narrow-is : undone (Narrow w) b ≡ widen w 0 behind
     unfolding undone decoded headerLength
     narrow-is = ap (widen w 0) (sym (part-end 1 b))
 
-    pub narrow-given : (IsWidth w) × (lacking w 0 (part 1 (length b - 1) b) ≡ 0) × (length (widen w 0 (part 1 (length b - 1) b)) ≤ length out)
+    pub narrow-given : (IsWidth w) × (lacking w 0 behind ≡ 0) × (length (widen w 0 behind) ≤ length out)
     unfolding headerLength
     narrow-given = (
       o .0 .0,
@@ -89,8 +98,8 @@ module _ (b out : List ℕ) where
       subst (λ (xs : List ℕ). length xs ≤ length out) narrow-is (o .3),
     )
 
-    pub narrow-put : (r : ℕ) (out' : List ℕ) → r ≡ length (widen w 0 (part 1 (length b - 1) b)) → out' ≡ putAt 0 (widen w 0 (part 1 (length b - 1) b)) out → Put (Narrow w) b r out out'
-    narrow-put r out' l h = put-as (Narrow w) b (widen w 0 (part 1 (length b - 1) b)) out out' r narrow-is l h
+    pub narrow-put : (r : ℕ) (out' : List ℕ) → r ≡ length (widen w 0 behind) → out' ≡ putAt 0 (widen w 0 behind) out → Put (Narrow w) b r out out'
+    narrow-put r out' l h = put-as (Narrow w) b (widen w 0 behind) out out' r narrow-is l h
 
   -- format 72
   module _ (o : Opens Follow b (length out)) where
@@ -106,7 +115,9 @@ module _ (b out : List ℕ) where
     unfolding headerLength
     follow-given =
         let h : 257 ≤ length b = o .1 in
-        (h, length-part 1 256 b (omega arith), rw (length-part 257 (length b - 257) b (omega arith)) (subst (λ (n : ℕ). n ≤ length out) long (o .3)))
+        let fits : length b - 257 ≤ length out = subst (λ (n : ℕ). n ≤ length out) long (o .3) in
+        (h, length-part 1 256 b (omega arith), rw (length-part 257 (length b - 257) b (omega arith)) fits)
 
-    pub follow-put : (out' : List ℕ) → out' ≡ putAt 0 (unfollowed (part 1 256 b) (part 257 (length b - 257) b)) out → Put Follow b (length b - 257) out out'
+    pub follow-put : (out' : List ℕ) → out' ≡ putAt 0 (unfollowed (part 1 256 b) (part 257 (length b - 257) b)) out
+        → Put Follow b (length b - 257) out out'
     follow-put out' h = (sym long, h ∙ ap (λ (xs : List ℕ). putAt 0 xs out) (sym follow-is))

@@ -65,7 +65,9 @@ module _ (room : ℕ) (b : List ℕ) where
 
   pub follow-data : when (ltb room (length b - 257)) 26 0 ≡ dataTest Follow room b
   unfolding undone badData headerLength
-  follow-data = data-good Follow room b (length b - 257) refl (length-follow-undone (levelAt b) (followAt b) (drop 257 b) ∙ length-drop 257 b)
+  follow-data =
+      data-good Follow room b (length b - 257) refl
+      (length-follow-undone (levelAt b) (followAt b) (drop 257 b) ∙ length-drop 257 b)
 
   pub other-data : Accepted ≡ dataTest Other room b
   unfolding undone badData decoded
@@ -77,7 +79,9 @@ module _ (room : ℕ) (b : List ℕ) where
 
     pub delta-broken : (n % w ≡ 0 → ⊥) → Refused 43 0 ≡ dataTest (Delta w) room b
     unfolding badData
-    delta-broken k = data-bad (Delta w) room b (ap not (ne-eqb (length (dataAt (Delta w) b) % w) 0 (λ h. k (ap (λ (x : ℕ). x % w) (sym long) ∙ h))))
+    delta-broken k =
+        let broken : length (dataAt (Delta w) b) % w ≡ 0 → ⊥ = λ h. k (ap (λ (x : ℕ). x % w) (sym long) ∙ h) in
+        data-bad (Delta w) room b (ap not (ne-eqb (length (dataAt (Delta w) b) % w) 0 broken))
 
     pub delta-whole : IsWidth w → n % w ≡ 0 → when (ltb room n) 26 0 ≡ dataTest (Delta w) room b
     unfolding undone badData
@@ -96,4 +100,6 @@ module _ (room : ℕ) (b : List ℕ) where
     narrow-units n e =
         let k = units-told (ltb 0 (lacking w 0 (drop 1 b))) n (begun w 0 (drop 1 b)) e in
         data-good (Narrow w) room b (n * w) (k .0)
-        (ap length (decoded-narrow (levelAt b) (followAt b) (drop 1 b) w) ∙ length-widened w (drop 1 b) (none-lacking w (drop 1 b) (k .0)) ∙ ap (λ (x : ℕ). x * w) (sym (k .1)))
+        (ap length (decoded-narrow (levelAt b) (followAt b) (drop 1 b) w)
+        ∙ length-widened w (drop 1 b) (none-lacking w (drop 1 b) (k .0))
+        ∙ ap (λ (x : ℕ). x * w) (sym (k .1)))

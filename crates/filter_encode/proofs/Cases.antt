@@ -22,7 +22,8 @@ delta-width e k = subst Known e k
 pub narrow-width : {f : Filter} {w : ℕ} → f ≡ Narrow w → Known f → (IsWidth w) × (2 ≤ w)
 narrow-width e k = subst Known e k
 
-pub narrow-whole : {f : Filter} {w : ℕ} (s : List ℕ) → f ≡ Narrow w → (Known f) × (badUnits f s ≡ false) → (IsWidth w) × (length s % w ≡ 0) × (2 ≤ w)
+pub narrow-whole : {f : Filter} {w : ℕ} (s : List ℕ) → f ≡ Narrow w → (Known f) × (badUnits f s ≡ false)
+    → (IsWidth w) × (length s % w ≡ 0) × (2 ≤ w)
 unfolding badUnits
 narrow-whole {w = w} s e h =
     let k : (IsWidth w) × (2 ≤ w) = narrow-width e (h .0) in
@@ -69,10 +70,14 @@ module _ {f : Filter} (level : ℕ) (follow s : List ℕ) {start : ℕ} (b : sta
 
 -- no block is made but by a filter
 pub no-filter : {A : Type 0} (f g : Filter) → f ≡ g → isFilter g ≡ false → isFilter f ≡ true → A
-no-filter f g e i h = let z : false ≡ true = sym i ∙ ap isFilter (sym e) ∙ h in let y : _≡_ {A = ℕ} 0 1 = cc in absurd (let x : ⊥ = omega arith in x)
+no-filter f g e i h =
+    let z : false ≡ true = sym i ∙ ap isFilter (sym e) ∙ h in
+    let y : _≡_ {A = ℕ} 0 1 = cc in
+    absurd (let x : ⊥ = omega arith in x)
 
 -- what was judged of the format, of the filter that it stands for, in a buffer that was written to
-module _ {f : Filter} (format : ℕ) (i : f ≡ filterOf format) (level : ℕ) (follow s : List ℕ) (n : ℕ) (h : Judged (filterOf format) level follow s n) {m : ℕ} (same : m ≡ n) where
+module _ {f : Filter} (format : ℕ) (i : f ≡ filterOf format) (level : ℕ) (follow s : List ℕ)
+    (n : ℕ) (h : Judged (filterOf format) level follow s n) {m : ℕ} (same : m ≡ n) where
   pub data-next : Judged f level follow s m
   data-next = rw (i, same) h
 

@@ -21,7 +21,8 @@ pub follow-long : (level : ℕ) (follow : List ℕ) → badGiven Follow level fo
 unfolding badGiven
 follow-long level follow e = eqb-true (length follow) 256 (not-false _ e)
 
-length-data : (f : Filter) (level : ℕ) (follow s : List ℕ) → Known f → badUnits f s ≡ false → length (encodedData f level follow s) ≡ dataLength f s
+length-data : (f : Filter) (level : ℕ) (follow s : List ℕ) → Known f → badUnits f s ≡ false
+    → length (encodedData f level follow s) ≡ dataLength f s
 unfolding encodedData dataLength badUnits
 length-data Raw level follow s k e = refl
 length-data (Delta w) level follow s k e = length-delta w (k .0) s (whole-units w s e) level
@@ -34,7 +35,8 @@ level-and-zeros : (t : Bool) → suc (suc (length {A = ℕ} (replicate (cond t 4
 level-and-zeros true = refl
 level-and-zeros false = refl
 
-pub length-header : (f : Filter) (format level : ℕ) (follow : List ℕ) → badGiven f level follow ≡ false → length (format ∷ headerRest f level follow) ≡ headerLength f
+pub length-header : (f : Filter) (format level : ℕ) (follow : List ℕ) → badGiven f level follow ≡ false
+    → length (format ∷ headerRest f level follow) ≡ headerLength f
 unfolding headerRest headerLength badGiven
 length-header Raw format level follow e = refl
 length-header (Delta w) format level follow e = level-and-zeros (eqb w 4)
@@ -42,7 +44,8 @@ length-header (Narrow w) format level follow e = refl
 length-header Follow format level follow e = ap suc (follow-long level follow e)
 length-header Other format level follow e = refl
 
-pub length-encoded : (format level : ℕ) (follow s : List ℕ) → badGiven (filterOf format) level follow ≡ false → badUnits (filterOf format) s ≡ false
+pub length-encoded : (format level : ℕ) (follow s : List ℕ) → badGiven (filterOf format) level follow ≡ false
+    → badUnits (filterOf format) s ≡ false
     → length (encoded format level follow s) ≡ headerLength (filterOf format) + dataLength (filterOf format) s
 unfolding encoded
 length-encoded format level follow s g u =
@@ -56,7 +59,8 @@ length-encoded format level follow s g u =
 pub format-byte : (format : ℕ) → isFilter (filterOf format) ≡ true → format % 256 ≡ format
 unfolding filterOf
 format-byte format i =
-    let h = step 0 Raw _ (omega arith) (step 64 (Delta 1) _ (omega arith) (step 65 (Delta 2) _ (omega arith) (step 66 (Delta 4) _ (omega arith)
+    let h = step 0 Raw _ (omega arith)
+    (step 64 (Delta 1) _ (omega arith) (step 65 (Delta 2) _ (omega arith) (step 66 (Delta 4) _ (omega arith)
     (step 70 (Narrow 2) _ (omega arith) (step 71 (Narrow 4) _ (omega arith) (step 72 Follow Other (omega arith) none)))))) i in
     omega arith
   where

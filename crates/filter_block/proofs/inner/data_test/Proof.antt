@@ -18,7 +18,8 @@ abbrev start : tie.After-shared-slice-known → tie.Start
 start m = m .before
 
 -- of the case g that the filter is: what the start knows, and what is to be answered
-known : (m : tie.After-shared-slice-known) {g : Filter} → start m .args .filter ≡ g → (Known g) × (headerLength g ≤ length (start m .args .block .now))
+known : (m : tie.After-shared-slice-known) {g : Filter} → start m .args .filter ≡ g
+    → (Known g) × (headerLength g ≤ length (start m .args .block .now))
 known m e = let s = start m in told (s .args .filter) _ (s .args .block .now) e (s .pre)
 
 tested : (m : tie.After-shared-slice-known) {g : Filter} {r : Answer} → start m .args .filter ≡ g

@@ -9,7 +9,8 @@ use Rattle.filter_block.proofs.inner.narrow_test.Statement.{statement}
 use Rattle.filter_block.proofs.inner.narrow_test.Tie as tie
 
 -- what was counted in the data
-told : (c : tie.After-count-units) → let a = c .before .before .before .args in c .count-units .result ≡ counted (a .w) (drop 1 (a .block .now))
+told : (c : tie.After-count-units) → let a = c .before .before .before .args in
+    c .count-units .result ≡ counted (a .w) (drop 1 (a .block .now))
 told c = let a = c .before .before .before .args in c .count-units .ensures ∙ ap (counted (a .w)) (part-end 1 (a .block .now))
 
 returns : tie.Need-returns

@@ -25,7 +25,8 @@ returns c =
     let k = c .before .before in
     let s = at-part (k .before .before) in
     let made = k .put-widened in
-    narrow-put (s .args .block .now) (s .args .out .now) (s .args .w) (s .pre) (made .result) (made .last .0) (made .ensures .0) (made .ensures .1)
+    narrow-put (s .args .block .now) (s .args .out .now) (s .args .w) (s .pre)
+    (made .result) (made .last .0) (made .ensures .0) (made .ensures .1)
 
 pub undo-narrow-spec : {M : Type 1} → statement M
 undo-narrow-spec =

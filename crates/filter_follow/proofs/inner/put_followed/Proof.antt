@@ -1,17 +1,17 @@
 -- The first byte is put as it is. Each turn puts one byte more, by the source's byte before it, and the invariant says
 -- that the first j bytes of the definition are put and p is the source's byte before j.
-use Prim.Native.Nat.{_+_, _-_}
-use mathlib.Core.Path.{refl, _∙_}
-use lib.ListN.{length, length-set, getD}
+use Prim.Native.Nat.{_-_}
+use mathlib.Core.Path.{refl}
+use lib.ListN.{length}
 use native.Mathlib.Omega.{arith}
 use borrow.Author.Needs.{needs}
 use Rattle.filter_format.specs.Follow.{followed}
-use Rattle.filter_follow.proofs.Turns.{Made, Turn, made-followed, none, start, more, done}
+use Rattle.filter_follow.proofs.Turns.{Turn, made-followed, none, start, more, same-long, done}
 use Rattle.filter_follow.proofs.inner.put_followed.Statement.{statement}
 use Rattle.filter_follow.proofs.inner.put_followed.Tie as tie
 
 abbrev Inv-loop : tie.InvT-loop
-Inv-loop out₀ at source follow p₀ j₀ out p j = Turn at source source (followed follow source) out₀ out p j
+Inv-loop out₀ at source follow p₀ j₀ out p j = Turn at follow source source (followed follow source) out₀ out p j
 
 abbrev μ-loop : tie.MeasureT-loop
 μ-loop out₀ at source follow p₀ j₀ out p j = length source - j
@@ -23,38 +23,30 @@ at-some e = e .before .before .before .before
 abbrev at-loop : tie.At-loop Inv-loop μ-loop → tie.Else1 Inv-loop μ-loop
 at-loop l = l .before .before
 
--- what the source makes
-made : (s : tie.Start Inv-loop μ-loop) → let f = s .args .follow .now in let xs = s .args .source .now in Made f xs xs (followed f xs)
-made s = made-followed (s .args .follow .now) (s .args .source .now)
-
 returns : tie.Need-returns Inv-loop μ-loop
-returns c = let s = c .before .before .before .before in none (s .args .at) (s .args .out .now) (made s) (omega arith) (c .if1 .taken)
+returns c =
+    let s = c .before .before .before .before in
+    none (s .args .at) (s .args .out .now) (made-followed (s .args .follow .now) (s .args .source .now)) (omega arith) (c .if1 .taken)
 
 loop-holds : tie.Need-loop-holds Inv-loop μ-loop
-loop-holds c = let s = at-some (c .before) in start (s .args .at) (s .args .out .now) (made s) (omega arith) (omega arith)
+loop-holds c =
+    let s = at-some (c .before) in
+    start (s .args .at) (s .args .out .now) (made-followed (s .args .follow .now) (s .args .source .now)) (omega arith) (omega arith)
 
 loop-again : tie.Need-loop-again Inv-loop μ-loop
 loop-again c =
     let w = c .before .before in
     let l = w .before .before .before in
-    let e = at-loop l in
-    let s = at-some e in
-    let j = l .loop .j in
-    let q = w .wide in
     let v = c .wrapping-sub-u8 in
-    let byte = e .before .before .shared-slice-known .given j .fits in
-    more (s .args .at) (s .args .out .now) (made s) (omega arith) (l .loop .inv) (omega arith)
-    (q .result) (v .result) (getD (s .args .source .now) j 0) (q .ensures .0) (omega (arith, v .ok)) byte (v .ensures) (λ e. refl) (s .args .at + j) refl
+    let byte = at-loop l .before .before .shared-slice-known .given (l .loop .j) .fits in
+    more (l .loop .inv) (omega arith) (w .wide .result) (v .result) _ (w .wide .ensures .0) (omega (arith, v .ok)) byte
+    (v .ensures) (λ e. refl) _ refl
 
 same-length : tie.Need-same-length Inv-loop μ-loop
-same-length c =
-    let a = at-some (at-loop (c .before)) .args in
-    c .before .loop .inv .up .same ∙ length-set (a .out .now) (a .at) (getD (a .source .now) 0 0)
+same-length c = same-long (c .before .loop .inv) (at-some (at-loop (c .before)) .args .out .now) refl
 
 returns-2 : tie.Need-returns-2 Inv-loop μ-loop
-returns-2 c =
-    let s = at-some (at-loop (c .before)) in
-    done (s .args .at) (s .args .out .now) (made s) (omega arith) (c .before .loop .inv) (omega arith) (omega arith)
+returns-2 c = done (c .before .loop .inv) (at-some (at-loop (c .before)) .args .out .now) refl (omega arith) (omega arith)
 
 pub put-followed-spec : {M : Type 1} → statement M
 put-followed-spec =

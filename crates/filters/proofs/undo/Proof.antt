@@ -1,3 +1,5 @@
+-- The tests decide first: a refusal zeroes both buffers. A block that passes is undone into the first buffer, and there stand the
+-- data, with zeros behind them, or the rest of the chain, which `choose` undoes from there with seven filters left.
 use mathlib.Core.Path.{sym, _∙_}
 use mathlib.Core.Bool.{true}
 use borrow.Author.Needs.{needs}
@@ -7,48 +9,60 @@ use Rattle.filters.proofs.Choice.{Told, Passed, told-accepted, chosen-r
 use Rattle.filters.proofs.undo.Statement.{statement}
 use Rattle.filters.proofs.undo.Tie as tie
 
+-- the start, from where the room is known; the tests, from where the filter is undone; and that, from where its format is asked
+abbrev at-start : tie.After-least → tie.Start
+at-start c = c .before .before .before .before
+
+abbrev at-tests : tie.After-undo-filter → tie.After-block-test
+at-tests c = c .before .before .before .before
+
+abbrev at-undone : tie.After-is-raw → tie.After-undo-filter
+at-undone c = c .before .before .before
+
 -- what the tests of the block told
-told : (c : tie.After-block-test) → let a = c .before .before .before .before .before .before .args in
-    Told 8 (c .before .before .least .result) (c .before .filter-at .result) (c .block-test .result) (a .block .now) (a .first .now) (a .second .now)
+told : (c : tie.After-block-test) → let r = c .before .before in let a = at-start r .args in
+    Told 8 (r .least .result) (c .before .filter-at .result) (c .block-test .result) (a .block .now) (a .first .now) (a .second .now)
 told c = record { is-room = c .before .before .least .ensures; is-filter = c .before .filter-at .ensures; is-answer = c .block-test .ensures }
 
-passed : (c : tie.After-enum-told) → let b = c .before .before in let a = b .before .before .before .before .before .before .args in
-    Passed 8 (b .before .filter-at .result) (a .block .now) (a .first .now) (a .second .now)
+passed : (c : tie.After-enum-told) → let f = c .before .before .before in let a = at-start (f .before) .args in
+    Passed 8 (f .filter-at .result) (a .block .now) (a .first .now) (a .second .now)
 passed c = told-accepted (told (c .before .before)) (c .enum-told .given .1)
 
 -- the block with its filter undone, in the first buffer
-held : (c : tie.After-undo-filter) → let a = c .before .before .before .before .before .before .before .before .before .before .args in let k = c .undo-filter in
-    Holds (k .result) (undone (c .before .before .before .before .before .filter-at .result) (a .block .now)) (a .first .now) (k .last .0)
+held : (c : tie.After-undo-filter) → let f = at-tests c .before in let a = at-start (f .before) .args in let k = c .undo-filter in
+    Holds (k .result) (undone (f .filter-at .result) (a .block .now)) (a .first .now) (k .last .0)
 held c = let k = c .undo-filter in record { fits = opens-here (passed (c .before .before)) .3; is = k .ensures .1; count = k .ensures .0 }
 
 returns : tie.Need-returns
 returns c =
     let k = c .before .before .before .before in
-    chosen-refused (told (k .before .before .before .before .before .before)) true (k .before .before .before .before .answer .given .1) (k .refuse .ensures)
+    let w = k .before .before .before .before in
+    chosen-refused (told (w .before .before)) true (w .answer .given .1) (k .refuse .ensures)
 
 undo-filter-requires : tie.Need-undo-filter-requires
 undo-filter-requires c κs = opens-here (passed (c .before))
 
 clear-behind-requires : tie.Need-clear-behind-requires
-clear-behind-requires c κs = held-inside (held (c .before .before .before .before .before))
+clear-behind-requires c κs = held-inside (held (at-undone (c .before .before)))
 
 returns-2 : tie.Need-returns-2
 returns-2 c =
     let z = c .before .before in
-    let i = z .before .before .before .before .before .before in
-    let u = i .before .before .before .before in
+    let y = z .before .before .before .before in
+    let i = y .before .before in
+    let u = at-undone (i .before) in
     let raw = sym (i .before .is-raw .ensures) ∙ i .if1 .taken in
-    chosen-raw (passed (u .before .before)) raw (held u) (z .before .before .before .before .clear-behind .ensures) (z .clear-behind2 .ensures)
+    chosen-raw (passed (u .before .before)) raw (held u) (y .clear-behind .ensures) (z .clear-behind2 .ensures)
 
 choose-requires : tie.Need-choose-requires
-choose-requires c κs = held-inside (held (c .before .before .before .before .before .before))
+choose-requires c κs = held-inside (held (at-undone (c .before .before .before)))
 
 returns-3 : tie.Need-returns-3
 returns-3 c =
     let k = c .before .before .before .before in
     let i = k .before .before .before in
-    let u = i .before .before .before .before in
-    let second = u .before .before .before .before .before .before .before .before .before .before .args .second .now in
+    let u = at-undone (i .before) in
+    let second = at-start (at-tests u .before .before) .args .second .now in
     let not-raw = sym (i .before .is-raw .ensures) ∙ i .if1 .left in
     chosen-layer (passed (u .before .before)) not-raw true (handed (held u) 7 true second (k .choose .ensures))
 

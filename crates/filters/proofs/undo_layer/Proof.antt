@@ -1,3 +1,5 @@
+-- The tests decide first: a refusal zeroes both buffers. A layer that passes is undone into the first buffer, with zeros behind
+-- it, and the second is zeroed.
 use borrow.Author.Needs.{needs}
 use Rattle.filter_format.specs.Block.{undone}
 use Rattle.filters.proofs.Buffers.{Holds, held-inside}
@@ -5,23 +7,31 @@ use Rattle.filters.proofs.Choice.{ToldAlone, alone-refused, alone-opens
 use Rattle.filters.proofs.undo_layer.Statement.{statement}
 use Rattle.filters.proofs.undo_layer.Tie as tie
 
+-- the start, from where the room is known, and the tests, from where the layer is undone
+abbrev at-start : tie.After-least → tie.Start
+at-start c = c .before .before .before .before
+
+abbrev at-tests : tie.After-undo-filter → tie.After-layer-test
+at-tests c = c .before .before .before .before
+
 -- what the tests of the layer told
-told : (c : tie.After-layer-test) → let a = c .before .before .before .before .before .before .args in
-    ToldAlone (c .before .before .least .result) (c .before .filter-at .result) (c .layer-test .result) (a .block .now) (a .first .now) (a .second .now)
+told : (c : tie.After-layer-test) → let r = c .before .before in let a = at-start r .args in
+    ToldAlone (r .least .result) (c .before .filter-at .result) (c .layer-test .result) (a .block .now) (a .first .now) (a .second .now)
 told c = record { is-room = c .before .before .least .ensures; is-filter = c .before .filter-at .ensures; is-answer = c .layer-test .ensures }
 
 -- the layer undone, in the first buffer
-held : (c : tie.After-undo-filter) → let a = c .before .before .before .before .before .before .before .before .before .before .args in let k = c .undo-filter in
-    Holds (k .result) (undone (c .before .before .before .before .before .filter-at .result) (a .block .now)) (a .first .now) (k .last .0)
+held : (c : tie.After-undo-filter) → let f = at-tests c .before in let a = at-start (f .before) .args in let k = c .undo-filter in
+    Holds (k .result) (undone (f .filter-at .result) (a .block .now)) (a .first .now) (k .last .0)
 held c =
     let k = c .undo-filter in
-    let o = alone-opens (told (c .before .before .before .before)) (c .before .before .enum-told .given .1) in
+    let o = alone-opens (told (at-tests c)) (c .before .before .enum-told .given .1) in
     record { fits = o .3; is = k .ensures .1; count = k .ensures .0 }
 
 returns : tie.Need-returns
 returns c =
     let k = c .before .before .before .before in
-    alone-refused (told (k .before .before .before .before .before .before)) (k .before .before .before .before .answer .given .1) (k .refuse .ensures)
+    let w = k .before .before .before .before in
+    alone-refused (told (w .before .before)) (w .answer .given .1) (k .refuse .ensures)
 
 undo-filter-requires : tie.Need-undo-filter-requires
 undo-filter-requires c κs = alone-opens (told (c .before .before .before)) (c .before .enum-told .given .1)
@@ -32,9 +42,10 @@ clear-behind-requires c κs = held-inside (held (c .before .before .before))
 returns-2 : tie.Need-returns-2
 returns-2 c =
     let z = c .before .before in
-    let u = z .before .before .before .before .before .before .before .before in
+    let y = z .before .before .before .before in
+    let u = y .before .before .before .before in
     let ok = u .before .before .enum-told .given .1 in
-    alone-placed (told (u .before .before .before .before)) ok (held u) (z .before .before .before .before .clear-behind .ensures) (z .clear-behind2 .ensures)
+    alone-placed (told (at-tests u)) ok (held u) (y .clear-behind .ensures) (z .clear-behind2 .ensures)
 
 pub undo-layer-spec : {M : Type 1} → statement M
 undo-layer-spec =

@@ -29,10 +29,10 @@ loop-again c =
     let k = p .do-pass in
     let t = p .before .before in
     let bytes = bytes-of (k .last .0) (λ i. c .slice-known2 .given i .fits) in
-    levels-more (t .before .loop .inv) (t .loop-test .taken) (k .ensures) (k .kept .0) bytes
+    levels-more (t .before .loop .inv) (omega arith) (k .ensures) (k .kept .0) bytes
 
 returns : tie.Need-returns Inv-loop μ-loop
-returns c = levels-done (c .before .loop .inv) (c .loop-test .left)
+returns c = levels-done (c .before .loop .inv) (omega arith)
 
 pub do-levels-spec : {M : Type 1} → statement M
 do-levels-spec =

@@ -1,6 +1,7 @@
 -- Each turn puts one unit less the one before it: what is made and the differences of the units to come are together those of
 -- all the units.
 use Rattle.filter_delta.proofs.Pass.{Doing, do-turn, do-done, passes}
+use native.Mathlib.Omega.{arith}
 use borrow.Author.Needs.{needs}
 use Rattle.filter_delta.proofs.inner.do_pass.Statement.{statement}
 use Rattle.filter_delta.proofs.inner.do_pass.Tie as tie
@@ -27,10 +28,10 @@ loop-again c =
     let u = k .before .before .before in
     let x = u .get-unit in
     let t = u .before .before in
-    do-turn (t .before .loop .inv) (t .loop-test .taken) (v .result) (x .ensures .0) (x .ensures .1) (v .ensures) (k .put-unit .ensures)
+    do-turn (t .before .loop .inv) (omega arith) (v .result) (x .ensures .0) (x .ensures .1) (v .ensures) (k .put-unit .ensures)
 
 returns : tie.Need-returns Inv-loop μ-loop
-returns c = do-done (c .before .loop .inv) (c .loop-test .left)
+returns c = do-done (c .before .loop .inv) (omega arith)
 
 pub do-pass-spec : {M : Type 1} → statement M
 do-pass-spec =

@@ -1,6 +1,7 @@
 -- Each turn puts the sum of one unit and of those before it: what is made and the sums of the units to come are together those of
 -- all the units. What the code adds at 32 bits is the sum modulo the units' range.
 use Rattle.filter_delta.proofs.Pass.{Undoing, undo-turn, undo-done, passes}
+use native.Mathlib.Omega.{arith}
 use borrow.Author.Needs.{needs}
 use Rattle.filter_delta.proofs.inner.undo_pass.Statement.{statement}
 use Rattle.filter_delta.proofs.inner.undo_pass.Tie as tie
@@ -26,10 +27,10 @@ loop-again c =
     let v = k .before .before in
     let x = v .before in
     let t = x .before .before in
-    undo-turn (t .before .loop .inv) (t .loop-test .taken) (x .get-unit .ensures .0) (v .wrapping-add-u32 .ensures) (k .put-unit .ensures)
+    undo-turn (t .before .loop .inv) (omega arith) (x .get-unit .ensures .0) (v .wrapping-add-u32 .ensures) (k .put-unit .ensures)
 
 returns : tie.Need-returns Inv-loop μ-loop
-returns c = undo-done (c .before .loop .inv) (c .loop-test .left)
+returns c = undo-done (c .before .loop .inv) (omega arith)
 
 pub undo-pass-spec : {M : Type 1} → statement M
 undo-pass-spec =

@@ -1,17 +1,12 @@
 -- The tests in their order, each by what the calls before it gave.
 use Rattle.answers.proofs.Chains.{refusal, onward}
 use Rattle.filters.proofs.Chain.{judging}
+use borrow.Author.Needs.{needs}
 use Rattle.filters.proofs.inner.block_test.Statement.{statement}
 use Rattle.filters.proofs.inner.block_test.Tie as tie
 
 returns : tie.Need-returns
 returns c = search (refusal, judging)
-
-is-raw-requires : tie.Need-is-raw-requires
-is-raw-requires c κs = search judging
-
-is-filter-requires : tie.Need-is-filter-requires
-is-filter-requires c κs = search judging
 
 returns-2 : tie.Need-returns-2
 returns-2 c = search (refusal, judging)
@@ -30,8 +25,8 @@ block-test-spec =
     tie.close
     (tie.spec
     returns
-    is-raw-requires
-    is-filter-requires
+    (λ c κs. search needs)
+    (λ c κs. search needs)
     returns-2
     returns-3
     contents-test-requires

@@ -1,3 +1,4 @@
+-- The data are copied to the front of `there`, with zeros behind them, and `here` is zeroed.
 use borrow.Author.Needs.{needs}
 use Rattle.filters.proofs.Buffers.{holds-part, placed}
 use Rattle.filters.proofs.inner.hand_over.Statement.{statement}
@@ -6,10 +7,12 @@ use Rattle.filters.proofs.inner.hand_over.Tie as tie
 returns : tie.Need-returns
 returns c =
     let z = c .before .before in
-    let m = z .before .before .before .before .before .before .before .before in
-    let a = m .before .before .before .before .before in
+    let y = z .before .before .before .before in
+    let m = y .before .before .before .before in
+    let b = m .before .before in
+    let a = b .before .before .before in
     let held = holds-part (a .args .here .now) (a .pre .0) (a .pre .1) (m .copy .ensures) in
-    placed held (a .args .here .now) (z .before .before .before .before .clear-behind .ensures) (z .clear-behind2 .ensures)
+    placed held (a .args .here .now) (y .clear-behind .ensures) (z .clear-behind2 .ensures)
 
 pub hand-over-spec : {M : Type 1} → statement M
 hand-over-spec =

@@ -1,3 +1,4 @@
+-- The data move to the front of `here`, with zeros behind them, and `there` is zeroed.
 use native.Mathlib.Omega.{arith}
 use borrow.Author.Needs.{needs}
 use Rattle.filters.proofs.Buffers.{holds-part, placed}
@@ -7,10 +8,11 @@ use Rattle.filters.proofs.inner.keep.Tie as tie
 returns : tie.Need-returns
 returns c =
     let z = c .before .before in
-    let m = z .before .before .before .before .before .before .before .before in
+    let y = z .before .before .before .before in
+    let m = y .before .before .before .before in
     let a = m .before .before .before .before in
     let held = holds-part (a .args .here .now) (a .pre) (omega arith) (m .move-down .ensures) in
-    placed held (a .args .there .now) (z .before .before .before .before .clear-behind .ensures) (z .clear-behind2 .ensures)
+    placed held (a .args .there .now) (y .clear-behind .ensures) (z .clear-behind2 .ensures)
 
 pub keep-spec : {M : Type 1} → statement M
 keep-spec =

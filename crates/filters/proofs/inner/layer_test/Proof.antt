@@ -1,14 +1,12 @@
 -- The tests in their order, each by what the call before it gave.
 use Rattle.answers.proofs.Chains.{refusal, onward}
 use Rattle.filters.proofs.Chain.{judging}
+use borrow.Author.Needs.{needs}
 use Rattle.filters.proofs.inner.layer_test.Statement.{statement}
 use Rattle.filters.proofs.inner.layer_test.Tie as tie
 
 returns : tie.Need-returns
 returns c = search (refusal, judging)
-
-is-filter-requires : tie.Need-is-filter-requires
-is-filter-requires c κs = search judging
 
 returns-2 : tie.Need-returns-2
 returns-2 c = search (refusal, judging)
@@ -24,7 +22,7 @@ layer-test-spec =
     tie.close
     (tie.spec
     returns
-    is-filter-requires
+    (λ c κs. search needs)
     returns-2
     contents-test-requires
     returns-3)

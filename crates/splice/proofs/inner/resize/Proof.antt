@@ -1,3 +1,5 @@
+-- Of equal sizes the tail stays. For a greater one it moves up and nothing is freed. For a smaller one it moves down, and the
+-- zeros behind it reach to the old end: the tail and then the zeros are what is put.
 use Prim.Native.Nat.{ℕ, _+_, _-_}
 use mathlib.Core.Path.{_≡_, sym, _∙_}
 use mathlib.Core.List.{List, append-nil}
@@ -9,6 +11,13 @@ use borrow.Author.Needs.{needs}
 use Rattle.splice.proofs.inner.resize.Statement.{statement}
 use Rattle.splice.proofs.inner.resize.Tie as tie
 
+-- the start, from the test whether the tail moves up or down
+abbrev at-longer : tie.Then2 → tie.Start
+at-longer c = c .before .before .before
+
+abbrev at-shorter : tie.Else2 → tie.Start
+at-shorter c = c .before .before .before
+
 returns : tie.Need-returns
 returns c =
     let a = c .before .before .args in
@@ -18,19 +27,22 @@ returns c =
 
 returns-2 : tie.Need-returns-2
 returns-2 c =
-    let a = c .before .before .before .before .before .before .before .args in
+    let m = c .before .before in
+    let a = at-longer (m .before .before) .args in
     let z : a .n - a .size ≡ 0 = omega arith in
-    rw (z, append-nil) (c .before .before .move-up .ensures)
+    rw (z, append-nil) (m .move-up .ensures)
 
 returns-3 : tie.Need-returns-3
 returns-3 c =
-    let a = c .before .before .before .before .before .before .before .before .before .before .before .args in
+    let f = c .before .before in
+    let m = f .before .before .before .before in
+    let a = at-shorter (m .before .before) .args in
     let count : ℕ = a .end - (a .at + a .n) in
     let tail : List ℕ = part (a .at + a .n) count (a .s .now) in
     let z : a .end - (a .at + a .size + count) ≡ a .n - a .size = omega arith in
     let len : length tail ≡ count = length-part (a .at + a .n) count (a .s .now) (omega arith) in
     rw (← z)
-    (rw (c .before .before .before .before .before .before .move-down .ensures) at (c .before .before .fill .ensures)
+    (rw (m .move-down .ensures) at (f .fill .ensures)
     ∙ put-next (a .at + a .size) count tail (replicate (a .end - (a .at + a .size + count)) 0) (a .s .now) len (omega arith))
 
 pub resize-spec : {M : Type 1} → statement M

@@ -1,3 +1,5 @@
+-- `resize` has put the tail and the zeros behind the place, `copy` fills the place: the two runs, one behind the other, are what
+-- the definition puts at `at`.
 use Prim.Native.Nat.{ℕ, _+_, _-_}
 use mathlib.Core.Path.{_≡_, _∙_}
 use mathlib.Core.List.{List, _++_}
@@ -12,12 +14,14 @@ use Rattle.splice.proofs.inner.splice.Tie as tie
 returns : tie.Need-returns
 unfolding spliced
 returns c =
-    let a = c .before .before .before .before .before .before .before .before .before .before .args in
+    let k = c .before .before in
+    let r = k .before .before .before .before in
+    let a = r .before .before .before .before .args in
     let tail : List ℕ = part (a .at + a .n) (a .end - (a .at + a .n)) (a .s .now) in
     let put : List ℕ = part (a .from) (a .size) (a .source .now) in
     let len : length put ≡ a .size = length-part (a .from) (a .size) (a .source .now) (omega arith) in
     rw len
-    (rw (c .before .before .before .before .before .before .resize .ensures) at (c .before .before .copy .ensures)
+    (rw (r .resize .ensures) at (k .copy .ensures)
     ∙ put-before (a .at) (a .size) put (tail ++ replicate (a .n - a .size) 0) (a .s .now) len (omega arith))
 
 pub splice-spec : {M : Type 1} → statement M

@@ -33,15 +33,15 @@ loop-holds c =
     let d = known .before in
     listing-start _ _ (bytes-of (d .args .file .now) (λ j. known .shared-slice-known .given j .fits)) (d .pre .0) (c .first-boundary .ensures) (left-start _ _)
 
+next-read-requires : tie.Need-next-read-requires Inv-loop μ-loop
+next-read-requires c κs = let l = c .before in let d = given l in (l .loop .inv .walk, (left c, (d .pre .1 .0, d .pre .1 .1)))
+
 loop-again : tie.Need-loop-again Inv-loop μ-loop
 loop-again c =
     let line = c .before in
     let read = line .before in
     let turn = read .before in
     listing-more (turn .before .loop .inv) (left turn) (read .next-read .ensures .0) _ (read .next-read .ensures .1) (λ rest k. left-more (viewLine _ _ (read .next-read .result .view)) rest k (line .after-view-line .ensures))
-
-next-read-requires : tie.Need-next-read-requires Inv-loop μ-loop
-next-read-requires c κs = let l = c .before in let d = given l in (l .loop .inv .walk, (left c, (d .pre .1 .0, d .pre .1 .1)))
 
 returns : tie.Need-returns Inv-loop μ-loop
 returns c = let d = given (c .before) in left-done (listing-done (c .before .loop .inv) (omega (arith, c .loop-test .left, reads-of (d .args .header) _ (d .pre .1 .0))))

@@ -13,13 +13,13 @@ returns c =
     let d = known .before in
     enough-room (d .args .file .now) _ (bytes-of (d .args .file .now) (λ j. known .shared-slice-known .given j .fits)) (d .pre .0) (c .before .has-room .ensures) (c .if1 .taken)
 
+after-reads-requires : tie.Need-after-reads-requires
+after-reads-requires c κs = let d = c .before .before .before .before .before in (d .pre .0, (d .pre .1 .0, d .pre .1 .1 .0))
+
 returns-2 : tie.Need-returns-2
 returns-2 c =
     let d = c .before .before .before .before .before .before in
     rw (d .pre .1 .1 .1 .0) (measured _ (headerLine _ _ _) (linesFrom 0 _) (c .before .after-header-line .ensures) (c .after-reads .ensures))
-
-after-reads-requires : tie.Need-after-reads-requires
-after-reads-requires c κs = let d = c .before .before .before .before .before in (d .pre .0, (d .pre .1 .0, d .pre .1 .1 .0))
 
 pub lacks-room-spec : {M : Type 1} → statement M
 lacks-room-spec =

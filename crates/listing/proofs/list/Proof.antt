@@ -7,6 +7,9 @@ use Rattle.listing.proofs.Whole.{listing-accepted, listing-refused}
 use Rattle.listing.proofs.list.Statement.{statement}
 use Rattle.listing.proofs.list.Tie as tie
 
+put-file-requires : tie.Need-put-file-requires
+put-file-requires c κs = sym (c .before .before .before .file-test .ensures) ∙ c .before .enum-told .given .1
+
 returns : tie.Need-returns
 returns c =
     let told = c .before .before .before .before in
@@ -22,9 +25,6 @@ returns-2 c =
     let a = tested .before .before .before .args in
     let e = listing-refused (a .file .now) _ _ (sym (tested .file-test .ensures) ∙ told .answer .given .1) in
     counted (listing (a .file .now)) (a .out .now) (rw e (c .before .before .write-refusal .ensures))
-
-put-file-requires : tie.Need-put-file-requires
-put-file-requires c κs = sym (c .before .before .before .file-test .ensures) ∙ c .before .enum-told .given .1
 
 pub list-spec : {M : Type 1} → statement M
 list-spec =

@@ -5,14 +5,6 @@ use Rattle.sff_header.proofs.Fields.{flows-of}
 use Rattle.listing.proofs.next_read.Statement.{statement}
 use Rattle.listing.proofs.next_read.Tie as tie
 
-returns : tie.Need-returns
-returns c =
-    let view = c .before in
-    let start = view .before in
-    let d = start .before .before in
-    let f = flows-of (d .args .header) _ (d .pre .1 .1 .0) in
-    (rw (view .read-view .ensures, start .past-index .ensures, f), rw (c .next-boundary .ensures, start .past-index .ensures))
-
 past-index-requires : tie.Need-past-index-requires
 past-index-requires c κs = let d = c .before in (d .pre .1 .1 .0, (d .pre .1 .1 .1, d .pre .0 .inside))
 
@@ -21,6 +13,14 @@ read-view-requires c κs = let d = c .before .before in (walk-begins (d .pre .0)
 
 next-boundary-requires : tie.Need-next-boundary-requires
 next-boundary-requires c κs = let d = c .before .before .before in (d .pre .1 .1 .0, (d .pre .1 .1 .1, walk-begins (d .pre .0) (c .before .past-index .ensures) (d .pre .1 .0)))
+
+returns : tie.Need-returns
+returns c =
+    let view = c .before in
+    let start = view .before in
+    let d = start .before .before in
+    let f = flows-of (d .args .header) _ (d .pre .1 .1 .0) in
+    (rw (view .read-view .ensures, start .past-index .ensures, f), rw (c .next-boundary .ensures, start .past-index .ensures))
 
 pub next-read-spec : {M : Type 1} → statement M
 next-read-spec =

@@ -32,15 +32,17 @@ fits c =
     let measured = c .before .before in
     both-fit _ (headerLine _ _ _) (linesFrom 0 _) (lines (measured .before)) (sym (measured .lacks-room .ensures) ∙ c .before .if1 .left)
 
+header-fields-requires : tie.Need-header-fields-requires
+header-fields-requires c κs = header-whole _ (c .before .before .pre)
+
+lacks-room-requires : tie.Need-lacks-room-requires
+lacks-room-requires c κs = let h = c .before .before .header-fields .ensures in (given c .pre, (h .0, (h .1, (lines c, search needs))))
+
 returns : tie.Need-returns
 returns c = none-put _ _ (ltb-true _ _ (sym (c .before .lacks-room .ensures) ∙ c .if1 .taken))
 
-returns-2 : tie.Need-returns-2
-returns-2 c =
-    let reads = c .before .before in
-    let header = reads .before .before .before .before in
-    let s = header .before .before .before .before in
-    rw (lines s) (both-put _ _ _ (fits (header .before)) (header .put-header-line .ensures) (reads .put-reads .ensures))
+put-header-line-requires : tie.Need-put-header-line-requires
+put-header-line-requires c κs = two-1 _ (linesFrom 0 _) (room-both (headerLine _ _ _) (linesFrom 0 _) _ (fits c))
 
 put-reads-requires : tie.Need-put-reads-requires
 put-reads-requires c κs =
@@ -50,14 +52,12 @@ put-reads-requires c κs =
     let h = s .before .before .header-fields .ensures in
     (given s .pre, (h .0, (h .1, two-2 _ _ (room-both (headerLine _ _ _) (linesFrom 0 _) _ (fits (header .before))) (w .0) (w .1))))
 
-header-fields-requires : tie.Need-header-fields-requires
-header-fields-requires c κs = header-whole _ (c .before .before .pre)
-
-lacks-room-requires : tie.Need-lacks-room-requires
-lacks-room-requires c κs = let h = c .before .before .header-fields .ensures in (given c .pre, (h .0, (h .1, (lines c, search needs))))
-
-put-header-line-requires : tie.Need-put-header-line-requires
-put-header-line-requires c κs = two-1 _ (linesFrom 0 _) (room-both (headerLine _ _ _) (linesFrom 0 _) _ (fits c))
+returns-2 : tie.Need-returns-2
+returns-2 c =
+    let reads = c .before .before in
+    let header = reads .before .before .before .before in
+    let s = header .before .before .before .before in
+    rw (lines s) (both-put _ _ _ (fits (header .before)) (header .put-header-line .ensures) (reads .put-reads .ensures))
 
 pub put-file-spec : {M : Type 1} → statement M
 put-file-spec =

@@ -34,12 +34,8 @@ loop-holds c =
     let d = known .before in
     listing-start _ _ (bytes-of (d .args .file .now) (λ j. known .shared-slice-known .given j .fits)) (d .pre .0) (c .first-boundary .ensures) (coming-start (d .pre .1 .1 .1))
 
-loop-again : tie.Need-loop-again Inv-loop μ-loop
-loop-again c =
-    let line = c .before .before .before in
-    let read = line .before .before in
-    let turn = read .before in
-    listing-more (turn .before .loop .inv) (left turn) (read .next-read .ensures .0) _ (read .next-read .ensures .1) (λ rest k. coming-put k _ rest refl (line .put-view-line .ensures))
+next-read-requires : tie.Need-next-read-requires Inv-loop μ-loop
+next-read-requires c κs = let l = c .before in let d = given l in (l .loop .inv .walk, (left c, (d .pre .1 .0, d .pre .1 .1 .0)))
 
 put-view-line-requires : tie.Need-put-view-line-requires Inv-loop μ-loop
 put-view-line-requires c κs =
@@ -47,8 +43,12 @@ put-view-line-requires c κs =
     let turn = read .before in
     coming-room (listing-next (turn .before .loop .inv) (left turn) (read .next-read .ensures .0)) _ _ refl
 
-next-read-requires : tie.Need-next-read-requires Inv-loop μ-loop
-next-read-requires c κs = let l = c .before in let d = given l in (l .loop .inv .walk, (left c, (d .pre .1 .0, d .pre .1 .1 .0)))
+loop-again : tie.Need-loop-again Inv-loop μ-loop
+loop-again c =
+    let line = c .before .before .before in
+    let read = line .before .before in
+    let turn = read .before in
+    listing-more (turn .before .loop .inv) (left turn) (read .next-read .ensures .0) _ (read .next-read .ensures .1) (λ rest k. coming-put k _ rest refl (line .put-view-line .ensures))
 
 same-length : tie.Need-same-length Inv-loop μ-loop
 same-length c = c .before .loop .inv .coming .same

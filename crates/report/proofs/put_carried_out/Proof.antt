@@ -1,4 +1,4 @@
--- The answer's line is put where its length is found to fit.
+-- Where the buffer is shorter than the answer's line nothing is put, and 26 is answered; else it fits, and it is put.
 use native.Mathlib.Omega.{arith}
 use borrow.Author.Needs.{needs}
 use Rattle.text.proofs.Fitted.{none-put, all-put}

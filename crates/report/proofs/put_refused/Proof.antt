@@ -1,4 +1,5 @@
--- The answer's line at the front, and the refusal's line behind it, where both are found to fit.
+-- Where the buffer is shorter than the two lines nothing is put, and 26 is answered; else they fit, and the refusal's
+-- line is put at the place where the answer's line ended.
 use native.Mathlib.Omega.{arith}
 use borrow.Author.Needs.{needs}
 use lib.ListN.{length-append}

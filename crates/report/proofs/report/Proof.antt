@@ -1,4 +1,4 @@
--- What is printed is the answer's line, and behind it the refusal's where there is one.
+-- Where the answer says accepted what is printed is the answer's line alone; else it is that line and the refusal's.
 use borrow.Author.Needs.{needs}
 use Rattle.text.proofs.Fitted.{counted}
 use Rattle.report.specs.Report.{reported}
@@ -8,17 +8,19 @@ use Rattle.report.proofs.report.Tie as tie
 
 returns : tie.Need-returns
 returns c =
-    let told = c .before .before .before .before in
+    let put = c .before .before in
+    let told = put .before .before in
     let a = told .before .before .before .args in
     let e = reported-accepted (a .outcome) (told .enum-told .given .1) in
-    counted (reported (a .outcome)) (a .out .now) (rw e (c .before .before .put-carried-out .ensures))
+    counted (reported (a .outcome)) (a .out .now) (rw e (put .put-carried-out .ensures))
 
 returns-2 : tie.Need-returns-2
 returns-2 c =
-    let told = c .before .before .before .before .before in
+    let put = c .before .before in
+    let told = put .before .before .before in
     let a = told .before .before .before .args in
     let e = reported-refused (a .outcome) _ _ (told .answer .given .1) in
-    counted (reported (a .outcome)) (a .out .now) (rw e (c .before .before .put-refused .ensures))
+    counted (reported (a .outcome)) (a .out .now) (rw e (put .put-refused .ensures))
 
 pub report-spec : {M : Type 1} → statement M
 report-spec =

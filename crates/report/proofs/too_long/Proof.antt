@@ -1,3 +1,4 @@
+-- The line is put if it fits, and a text that is put so counts bytes of the buffer.
 use borrow.Author.Needs.{needs}
 use Rattle.text.proofs.Fitted.{counted}
 use Rattle.lines.specs.Lines.{tooLong}

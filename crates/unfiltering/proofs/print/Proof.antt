@@ -1,4 +1,5 @@
--- The text is `too long`, or what is printed of the block.
+-- A longer input than 65,536 bytes prints `too long`, any other what is printed of the block; and either text counts
+-- bytes of the first buffer.
 use borrow.Author.Needs.{needs}
 use Rattle.filter_format.specs.Undo.{roomOf, undo}
 use Rattle.lines.specs.Lines.{tooLong}

@@ -1,4 +1,4 @@
--- The line is put if it fits, and the rest of both buffers is cleared.
+-- The line is put at the front of the first buffer if it fits, then zeros behind it, and zeros into the second.
 use borrow.Author.Needs.{needs}
 use Rattle.text.proofs.Fitted.{counted}
 use Rattle.lines.specs.Lines.{tooLong}
@@ -6,17 +6,22 @@ use Rattle.unfiltering.proofs.Texts.{cleared}
 use Rattle.unfiltering.proofs.put_long.Statement.{statement}
 use Rattle.unfiltering.proofs.put_long.Tie as tie
 
+abbrev start : tie.After-write-too-long → tie.Start
+start line = line .before .before .before .before
+
+clear-behind-requires : tie.Need-clear-behind-requires
+clear-behind-requires c κs =
+    let line = c .before .before .before in
+    counted tooLong (start line .args .first .now) (line .write-too-long .ensures) .1 .1 .0
+
 returns : tie.Need-returns
 returns c =
     let second = c .before .before in
     let first = second .before .before .before .before in
     let line = first .before .before .before .before in
-    (line .write-too-long .ensures .0, (cleared tooLong (line .before .before .before .before .args .first .now) _ (line .write-too-long .ensures) (first .clear-behind .ensures), second .clear-behind2 .ensures))
-
-clear-behind-requires : tie.Need-clear-behind-requires
-clear-behind-requires c κs =
-    let line = c .before .before .before in
-    counted tooLong (line .before .before .before .before .args .first .now) (line .write-too-long .ensures) .1 .1 .0
+    let put = line .write-too-long .ensures in
+    let held = cleared tooLong (start line .args .first .now) _ put (first .clear-behind .ensures) in
+    (put .0, (held, second .clear-behind2 .ensures))
 
 pub put-long-spec : {M : Type 1} → statement M
 put-long-spec =

@@ -1,7 +1,8 @@
--- The text is the data, which undoing leaves in the first buffer, or the line of the refusal, if it fits.
+-- An accepted block's data is what undoing leaves in the first buffer; a refusal's line is put over it if it fits, and
+-- zeros behind the line. Undoing has left the second buffer zero.
 use native.Mathlib.Omega.{arith}
 use borrow.Author.Needs.{needs}
-use Rattle.filter_format.specs.Undo.{roomOf, undo}
+use Rattle.filter_format.specs.Undo.{Result, roomOf, undo}
 use Rattle.text.proofs.Fitted.{counted}
 use Rattle.lines.specs.Lines.{refusalLine}
 use Rattle.unfiltering.proofs.Texts.{data-held, refusal-held}
@@ -10,29 +11,40 @@ use Rattle.unfiltering.proofs.put_undone.Tie as tie
 
 returns : tie.Need-returns
 returns c =
-    let undone = c .before .before .before .before .before .before in
-    let a = undone .before .before .before .before .before .before .args in
+    let undone = at-undone (c .before .before) in
+    let a = at-start undone .args in
     let u = undone .undo .ensures in
-    let x = undo (roomOf (a .first .now) (a .second .now)) (a .block .now) in
-    data-held x (u .0) (a .first .now) _ (a .second .now) (omega arith) (u .1 .1) (c .enum-told .given .1) (u .1 .0)
+    data-held (result undone) (u .0) (a .first .now) _ (a .second .now) (omega arith) (u .1 .1) (c .enum-told .given .1) (u .1 .0)
+
+-- where the block is undone, and the start
+abbrev at-undone : tie.After-slice-known4 → tie.After-undo
+at-undone c = c .before .before .before .before
+
+abbrev at-start : tie.After-undo → tie.Start
+at-start c = let known = c .before .before .before in known .before .before .before
+
+-- what undoing comes to
+abbrev result : tie.After-undo → Result
+result c = let a = at-start c .args in undo (roomOf (a .first .now) (a .second .now)) (a .block .now)
+
+clear-behind-requires : tie.Need-clear-behind-requires
+clear-behind-requires c κs =
+    let line = c .before .before .before in
+    let told = line .before .before .before in
+    let undone = at-undone (told .before .before) in
+    let g = told .answer .given .0 in
+    counted (refusalLine (g .0) (g .1 .0)) (undone .undo .last .1 .0) (line .write-refusal .ensures) .1 .1 .0
 
 returns-2 : tie.Need-returns-2
 returns-2 c =
     let cleared = c .before .before in
     let line = cleared .before .before .before .before in
     let told = line .before .before .before in
-    let undone = told .before .before .before .before .before .before in
-    let a = undone .before .before .before .before .before .before .args in
+    let undone = at-undone (told .before .before) in
+    let a = at-start undone .args in
     let u = undone .undo .ensures in
-    let x = undo (roomOf (a .first .now) (a .second .now)) (a .block .now) in
-    refusal-held x (u .0) (a .first .now) (undone .undo .last .1 .0) (a .second .now) (omega arith) (u .1 .1) _ _ (told .answer .given .1) (line .write-refusal .ensures) (cleared .clear-behind .ensures)
-
-clear-behind-requires : tie.Need-clear-behind-requires
-clear-behind-requires c κs =
-    let line = c .before .before .before in
-    let told = line .before .before .before in
-    let g = told .answer .given .0 in
-    counted (refusalLine (g .0) (g .1 .0)) (told .before .before .before .before .before .before .undo .last .1 .0) (line .write-refusal .ensures) .1 .1 .0
+    refusal-held (result undone) (u .0) (a .first .now) (undone .undo .last .1 .0) (a .second .now) (omega arith) (u .1 .1) _ _
+    (told .answer .given .1) (line .write-refusal .ensures) (cleared .clear-behind .ensures)
 
 pub put-undone-spec : {M : Type 1} → statement M
 put-undone-spec =

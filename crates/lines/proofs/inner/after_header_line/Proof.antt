@@ -1,4 +1,4 @@
--- The digits of two numbers, the key, and 19 bytes of words between them.
+-- A header's line is the digits of two numbers, the key, and 19 bytes of labels and ends: each is taken from the room.
 use native.Mathlib.Omega.{arith}
 use borrow.Author.Needs.{needs}
 use Rattle.lines.proofs.Lengths.{header-line-length}

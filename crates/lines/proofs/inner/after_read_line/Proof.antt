@@ -1,4 +1,4 @@
--- The digits of four numbers, two words, and 6 bytes between and behind them.
+-- A read's line is two words, the digits of four numbers, and 6 bytes that end them: each is taken from the room.
 use native.Mathlib.Omega.{arith}
 use borrow.Author.Needs.{needs}
 use Rattle.lines.proofs.Lengths.{read-line-length, after-words}
@@ -8,7 +8,9 @@ use Rattle.lines.proofs.inner.after_read_line.Tie as tie
 returns : tie.Need-returns
 returns c =
     let insert = c .before .before in
-    after-words _ _ _ _ _ (insert .before .before .room-after .ensures) (insert .room-after2 .ensures) (c .room-after3 .ensures) (rw (read-line-length _ _ _ _ _ _) (omega arith))
+    let name = insert .before .before in
+    after-words _ _ _ _ _ (name .room-after .ensures) (insert .room-after2 .ensures) (c .room-after3 .ensures)
+    (rw (read-line-length _ _ _ _ _ _) (omega arith))
 
 pub after-read-line-spec : {M : Type 1} → statement M
 after-read-line-spec =

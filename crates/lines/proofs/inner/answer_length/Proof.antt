@@ -1,4 +1,4 @@
--- The digits of four numbers, and 30 bytes of words between them.
+-- An answer's line is the digits of four numbers, at most 20 each, and 30 bytes of labels and ends.
 use native.Mathlib.Omega.{arith}
 use borrow.Author.Needs.{needs}
 use Rattle.lines.proofs.Lengths.{answer-line-length}

@@ -1,3 +1,4 @@
+-- Three numbers' fields, each put at the place where the one before it ended, are the extent.
 use Rattle.lines.specs.Lines.{extent}
 use borrow.Author.Needs.{needs}
 use Rattle.text.proofs.Writing.{three, three-3}
@@ -21,5 +22,4 @@ unfolding extent
 returns c = search three
 
 pub put-extent-spec : {M : Type 1} → statement M
-unfolding extent
 put-extent-spec = tie.close (tie.spec put-number-field-requires put-number-field-requires-2 put-number-field-requires-3 (λ c. search needs) returns)

@@ -1,3 +1,4 @@
+-- The label is put, and the number's field at the place after it: two pieces, which are the labelled number.
 use Rattle.lines.specs.Lines.{labelledNumber}
 use borrow.Author.Needs.{needs}
 use Rattle.text.proofs.Writing.{two}
@@ -17,5 +18,4 @@ unfolding labelledNumber
 returns c = search two
 
 pub put-labelled-number-spec : {M : Type 1} → statement M
-unfolding labelledNumber
 put-labelled-number-spec = tie.close (tie.spec put-bytes-requires put-number-field-requires (λ c. search needs) returns)

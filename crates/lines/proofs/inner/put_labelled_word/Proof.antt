@@ -1,3 +1,4 @@
+-- The label is put, and the word's field at the place after it: two pieces, which are the labelled word.
 use Rattle.lines.specs.Lines.{labelledWord}
 use borrow.Author.Needs.{needs}
 use Rattle.text.proofs.Writing.{two}
@@ -17,5 +18,4 @@ unfolding labelledWord
 returns c = search two
 
 pub put-labelled-word-spec : {M : Type 1} → statement M
-unfolding labelledWord
 put-labelled-word-spec = tie.close (tie.spec put-bytes-requires put-word-field-requires (λ c. search needs) returns)

@@ -1,3 +1,4 @@
+-- The digits are put, and the byte that ends them at the place after them: two pieces, which are the field.
 use Rattle.lines.specs.Lines.{numberField}
 use borrow.Author.Needs.{needs}
 use Rattle.text.proofs.Writing.{two}
@@ -17,5 +18,4 @@ unfolding numberField
 returns c = search two
 
 pub put-number-field-spec : {M : Type 1} → statement M
-unfolding numberField
 put-number-field-spec = tie.close (tie.spec put-number-requires put-byte-requires (λ c. search needs) returns)

@@ -1,3 +1,4 @@
+-- The word or the dash is put, and the byte that ends it at the place after it: two pieces, which are the field.
 use Rattle.lines.specs.Lines.{wordField}
 use borrow.Author.Needs.{needs}
 use Rattle.text.proofs.Writing.{two}
@@ -17,5 +18,4 @@ unfolding wordField
 returns c = search two
 
 pub put-word-field-spec : {M : Type 1} → statement M
-unfolding wordField
 put-word-field-spec = tie.close (tie.spec put-or-dash-requires put-byte-requires (λ c. search needs) returns)

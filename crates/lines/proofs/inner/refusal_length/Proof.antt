@@ -1,4 +1,4 @@
--- The digits of two numbers, and 13 bytes of words between them.
+-- A refusal's line is the digits of two numbers, at most 20 each, and 13 bytes of labels and ends.
 use native.Mathlib.Omega.{arith}
 use borrow.Author.Needs.{needs}
 use Rattle.lines.proofs.Lengths.{refusal-line-length}

@@ -1,4 +1,4 @@
--- The line has 9 bytes.
+-- The line has 9 bytes: where the buffer has fewer nothing is put, and 26 is answered; else it is put.
 use native.Mathlib.Omega.{arith}
 use borrow.Author.Needs.{needs}
 use Rattle.text.proofs.Fitted.{none-put, all-put}

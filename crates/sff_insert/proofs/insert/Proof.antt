@@ -1,5 +1,6 @@
 -- A position that is refused has no insert; one that is accepted has that of the read found there.
 use mathlib.Core.Path.{_≡_, sym, _∙_}
+use native.Mathlib.Omega.{arith}
 use Rattle.answers.specs.declared.Answer.the-variants.{Accepted}
 use Rattle.sff_format.specs.Position.{positionTest}
 use Rattle.sff_format.proofs.Positions.{position-file, position-below, insert-refused, insert-view}
@@ -16,7 +17,7 @@ returns : tie.Need-returns
 returns c = insert-refused _ _ _ _ (sym (c .before .before .before .position-test .ensures) ∙ c .before .enum-told2 .given .1)
 
 view-of-requires : tie.Need-view-of-requires
-view-of-requires c κs = (position-file _ _ (accepted c), position-below _ _ (accepted c))
+view-of-requires c κs = (position-file _ _ (accepted c), omega (arith, position-below _ _ (accepted c)))
 
 returns-2 : tie.Need-returns-2
 returns-2 c =

@@ -1,6 +1,7 @@
 -- A position that is refused has the ends of an insert without bases; one that is accepted has those of the read found
 -- there.
 use mathlib.Core.Path.{_≡_, sym, _∙_}
+use native.Mathlib.Omega.{arith}
 use Rattle.answers.specs.declared.Answer.the-variants.{Accepted}
 use Rattle.sff_format.specs.Position.{positionTest}
 use Rattle.sff_format.proofs.Positions.{position-file, position-below, first-refused, last-refused, first-view, last-view}
@@ -19,7 +20,7 @@ returns c =
     (first-refused _ _ _ _ e, last-refused _ _ _ _ e)
 
 view-of-requires : tie.Need-view-of-requires
-view-of-requires c κs = (position-file _ _ (accepted c), position-below _ _ (accepted c))
+view-of-requires c κs = (position-file _ _ (accepted c), omega (arith, position-below _ _ (accepted c)))
 
 returns-2 : tie.Need-returns-2
 returns-2 c =

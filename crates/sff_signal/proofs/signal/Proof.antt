@@ -1,6 +1,7 @@
 -- Refused, three zeros stand for the summary. Accepted, the read is there and has flows, so that its values lie in the
 -- file, and their summary is the read's.
 use mathlib.Core.Path.{_≡_, sym, _∙_}
+use native.Mathlib.Omega.{arith}
 use borrow.Author.Needs.{needs}
 use Rattle.octets.specs.Numbers.{Bytes}
 use Rattle.octets.proofs.AllBytes.{bytes-of}
@@ -25,7 +26,9 @@ returns : tie.Need-returns
 returns c = signal-refused _ _ _ _ (sym (c .before .before .signal-test .ensures) ∙ c .enum-told2 .given .1)
 
 view-of-requires : tie.Need-view-of-requires
-view-of-requires c κs = let e = signal-position _ _ (accepted c) in (position-file _ _ e, position-below _ _ e)
+view-of-requires c κs =
+    let e = signal-position _ _ (accepted c) in
+    (position-file _ _ e, omega (arith, position-below _ _ e))
 
 values-summary-requires : tie.Need-values-summary-requires
 values-summary-requires c κs =

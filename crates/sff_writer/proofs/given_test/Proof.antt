@@ -19,8 +19,9 @@ abbrev at-counts : tie.Else3 → tie.Else1
 at-counts c = c .before .before .before
 
 counted : (c : tie.Else1) → let a = start (c .before) .args in
-    (length (a .increments .now) ≡ length (a .bases .now)) × (length (a .bases .now) < 4294967296)
-counted c = let k = counts-ok _ _ _ _ _ (sym (c .before .bad-counts .ensures) ∙ c .if1 .left) in (k .1, k .3)
+    (length (a .values .now) ≡ length (a .characters .now)) × (length (a .increments .now) ≡ length (a .bases .now))
+    × (length (a .qualities .now) ≡ length (a .bases .now)) × (length (a .bases .now) < 4294967296)
+counted c = counts-ok _ _ _ _ _ (sym (c .before .bad-counts .ensures) ∙ c .if1 .left)
 
 returns : tie.Need-returns
 unfolding givenTest
@@ -35,7 +36,7 @@ unfolding givenTest
 returns-3 c = search refusal
 
 clips-test-requires : tie.Need-clips-test-requires
-clips-test-requires c κs = counted (at-counts c) .1
+clips-test-requires c κs = let k = counted (at-counts c) in search needs
 
 returns-4 : tie.Need-returns-4
 unfolding givenTest

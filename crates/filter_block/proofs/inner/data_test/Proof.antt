@@ -46,16 +46,24 @@ unfolding headerLength
 sub-room-test-2 c = omega (arith, known (c .before .before) (c .enum-told2 .given .1) .1)
 
 returns : tie.Need-returns
-returns c = let the-case = c .before in tested (the-case .before .before) (the-case .enum-told .given .1) (c .room-test .ensures ∙ raw-data _ _)
+returns c =
+    let the-case = c .before in
+    tested (the-case .before .before) (the-case .enum-told .given .1) (c .room-test .ensures ∙ raw-data _ _)
 
 returns-2 : tie.Need-returns-2
-returns-2 c = let the-case = c .before .before in tested (the-case .before .before) (the-case .filter .given .1) (c .delta-test .ensures)
+returns-2 c =
+    let the-case = c .before .before in
+    tested (the-case .before .before) (the-case .filter .given .1) (c .delta-test .ensures)
 
 returns-3 : tie.Need-returns-3
-returns-3 c = let the-case = c .before .before in tested (the-case .before .before) (the-case .filter2 .given .1) (c .narrow-test .ensures)
+returns-3 c =
+    let the-case = c .before .before in
+    tested (the-case .before .before) (the-case .filter2 .given .1) (c .narrow-test .ensures)
 
 returns-4 : tie.Need-returns-4
-returns-4 c = let the-case = c .before in tested (the-case .before .before) (the-case .enum-told2 .given .1) (c .room-test2 .ensures ∙ follow-data _ _)
+returns-4 c =
+    let the-case = c .before in
+    tested (the-case .before .before) (the-case .enum-told2 .given .1) (c .room-test2 .ensures ∙ follow-data _ _)
 
 returns-5 : tie.Need-returns-5
 returns-5 c = tested (c .before .before) (c .enum-told3 .given .1) (other-data _ _)

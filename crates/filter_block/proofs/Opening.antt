@@ -98,7 +98,8 @@ module _ (b out : List ℕ) where
       subst (λ (xs : List ℕ). length xs ≤ length out) narrow-is (o .3),
     )
 
-    pub narrow-put : (r : ℕ) (out' : List ℕ) → r ≡ length (widen w 0 behind) → out' ≡ putAt 0 (widen w 0 behind) out → Put (Narrow w) b r out out'
+    pub narrow-put : (r : ℕ) (out' : List ℕ) → r ≡ length (widen w 0 behind) → out' ≡ putAt 0 (widen w 0 behind) out
+        → Put (Narrow w) b r out out'
     narrow-put r out' l h = put-as (Narrow w) b (widen w 0 behind) out out' r narrow-is l h
 
   -- format 72

@@ -18,10 +18,10 @@ put-delta-requires c κs = let ok = c .before in judged _ _ _ (ok .before .befor
 returns-2 : tie.Need-returns-2
 unfolding encodeSamples
 returns-2 c =
-    let k = c .before .before in
-    let ok = k .before .before in
+    let made = c .before .before in
+    let ok = made .before .before in
     written _ _ _ (ok .before .before .samples-test .ensures) (ok .enum-told .given .1)
-    _ _ (λ positive whole. length-delta _ positive _ whole 2) (k .put-delta .ensures)
+    _ _ (λ positive whole. length-delta _ positive _ whole 2) (made .put-delta .ensures)
 
 pub encode-samples-spec : {M : Type 1} → statement M
 encode-samples-spec =

@@ -32,27 +32,38 @@ unfolding headerLength
 sub-room-test c = omega (arith, known (c .before .before) (c .enum-told .given .1) .1)
 
 delta-test-requires : tie.Need-delta-test-requires
-delta-test-requires c κs = let d = c .before in known (d .before .before) (d .filter .given .1)
+delta-test-requires c κs = let the-case = c .before in known (the-case .before .before) (the-case .filter .given .1)
 
 narrow-test-requires : tie.Need-narrow-test-requires
 unfolding headerLength
-narrow-test-requires c κs = let d = c .before in let k = known (d .before .before) (d .filter2 .given .1) in (k .0 .0, k .1)
+narrow-test-requires c κs =
+    let the-case = c .before in
+    let facts = known (the-case .before .before) (the-case .filter2 .given .1) in
+    (facts .0 .0, facts .1)
 
 sub-room-test-2 : tie.Need-sub-room-test-2
 unfolding headerLength
 sub-room-test-2 c = omega (arith, known (c .before .before) (c .enum-told2 .given .1) .1)
 
 returns : tie.Need-returns
-returns c = let d = c .before in tested (d .before .before) (d .enum-told .given .1) (c .room-test .ensures ∙ raw-data _ _)
+returns c =
+    let the-case = c .before in
+    tested (the-case .before .before) (the-case .enum-told .given .1) (c .room-test .ensures ∙ raw-data _ _)
 
 returns-2 : tie.Need-returns-2
-returns-2 c = let d = c .before .before in tested (d .before .before) (d .filter .given .1) (c .delta-test .ensures)
+returns-2 c =
+    let the-case = c .before .before in
+    tested (the-case .before .before) (the-case .filter .given .1) (c .delta-test .ensures)
 
 returns-3 : tie.Need-returns-3
-returns-3 c = let d = c .before .before in tested (d .before .before) (d .filter2 .given .1) (c .narrow-test .ensures)
+returns-3 c =
+    let the-case = c .before .before in
+    tested (the-case .before .before) (the-case .filter2 .given .1) (c .narrow-test .ensures)
 
 returns-4 : tie.Need-returns-4
-returns-4 c = let d = c .before in tested (d .before .before) (d .enum-told2 .given .1) (c .room-test2 .ensures ∙ follow-data _ _)
+returns-4 c =
+    let the-case = c .before in
+    tested (the-case .before .before) (the-case .enum-told2 .given .1) (c .room-test2 .ensures ∙ follow-data _ _)
 
 returns-5 : tie.Need-returns-5
 returns-5 c = tested (c .before .before) (c .enum-told3 .given .1) (other-data _ _)

@@ -18,8 +18,8 @@ returns c = narrow-lacking _ _ _ (sym (c .enum-told .given .1) ∙ told (c .befo
 
 returns-2 : tie.Need-returns-2
 returns-2 c =
-    let k = c .before .before in
-    c .unit-test .ensures ∙ narrow-units _ _ _ _ (sym (k .counted .given .1) ∙ told (k .before .before))
+    let units = c .before .before in
+    c .unit-test .ensures ∙ narrow-units _ _ _ _ (sym (units .counted .given .1) ∙ told (units .before .before))
 
 pub narrow-test-spec : {M : Type 1} → statement M
 narrow-test-spec =

@@ -15,18 +15,18 @@ shared-slice-read-wide c = let s = at-header (c .before) in level-in (s .args .w
 
 put-undone-requires : tie.Need-put-undone-requires
 put-undone-requires c κs =
-    let h = c .before .before .before .before in
-    let s = at-header h in
-    delta-given (s .args .block .now) (s .args .out .now) (s .args .w) _ (s .pre) (h .header-length .ensures .0)
+    let header = c .before .before .before .before in
+    let s = at-header header in
+    delta-given (s .args .block .now) (s .args .out .now) (s .args .w) _ (s .pre) (header .header-length .ensures .0)
 
 returns : tie.Need-returns
 returns c =
-    let k = c .before .before in
-    let level = k .before .before .before in
-    let h = level .before .before in
-    let s = at-header h in
-    delta-put (s .args .block .now) (s .args .out .now) (s .args .w) _ (s .pre) (h .header-length .ensures .0)
-    _ (k .put-undone .last .0) (level .wide .ensures .0) (k .put-undone .ensures)
+    let made = c .before .before in
+    let level = made .before .before .before in
+    let header = level .before .before in
+    let s = at-header header in
+    delta-put (s .args .block .now) (s .args .out .now) (s .args .w) _ (s .pre) (header .header-length .ensures .0)
+    _ (made .put-undone .last .0) (level .wide .ensures .0) (made .put-undone .ensures)
 
 pub undo-delta-spec : {M : Type 1} → statement M
 undo-delta-spec =

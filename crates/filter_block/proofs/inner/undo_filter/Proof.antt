@@ -1,4 +1,5 @@
--- The filter is one of its cases: each case's function asks what the tests left of that case, and puts its promise.
+-- The filter is one of its cases: what its tests left is what that case's function asks, and what that function puts is
+-- the definition's.
 use Prim.Native.Nat.{ℕ}
 use mathlib.Core.Path.{_≡_}
 use mathlib.Core.List.{List}
@@ -24,40 +25,40 @@ put : (m : tie.After-shared-slice-known) {g : Filter} {r : ℕ} {out' : List ℕ
 put m e p = let a = start m .args in put-of (a .filter) _ (a .block .now) _ (a .out .now) _ e p
 
 undo-raw-requires : tie.Need-undo-raw-requires
-undo-raw-requires c κs = let d = c .before in opened (d .before .before) (d .enum-told .given .1)
+undo-raw-requires c κs = let the-case = c .before in opened (the-case .before .before) (the-case .enum-told .given .1)
 
 undo-delta-requires : tie.Need-undo-delta-requires
-undo-delta-requires c κs = let d = c .before .before in opened (d .before .before) (d .filter .given .1)
+undo-delta-requires c κs = let the-case = c .before .before in opened (the-case .before .before) (the-case .filter .given .1)
 
 undo-narrow-requires : tie.Need-undo-narrow-requires
-undo-narrow-requires c κs = let d = c .before .before in opened (d .before .before) (d .filter2 .given .1)
+undo-narrow-requires c κs = let the-case = c .before .before in opened (the-case .before .before) (the-case .filter2 .given .1)
 
 undo-follow-requires : tie.Need-undo-follow-requires
-undo-follow-requires c κs = let d = c .before in opened (d .before .before) (d .enum-told2 .given .1)
+undo-follow-requires c κs = let the-case = c .before in opened (the-case .before .before) (the-case .enum-told2 .given .1)
 
 returns : tie.Need-returns
 returns c =
-    let k = c .before .before in
-    let d = k .before .before in
-    put (d .before .before) (d .enum-told .given .1) (k .undo-raw .ensures)
+    let made = c .before .before in
+    let the-case = made .before .before in
+    put (the-case .before .before) (the-case .enum-told .given .1) (made .undo-raw .ensures)
 
 returns-2 : tie.Need-returns-2
 returns-2 c =
-    let k = c .before .before in
-    let d = k .before .before .before in
-    put (d .before .before) (d .filter .given .1) (k .undo-delta .ensures)
+    let made = c .before .before in
+    let the-case = made .before .before .before in
+    put (the-case .before .before) (the-case .filter .given .1) (made .undo-delta .ensures)
 
 returns-3 : tie.Need-returns-3
 returns-3 c =
-    let k = c .before .before in
-    let d = k .before .before .before in
-    put (d .before .before) (d .filter2 .given .1) (k .undo-narrow .ensures)
+    let made = c .before .before in
+    let the-case = made .before .before .before in
+    put (the-case .before .before) (the-case .filter2 .given .1) (made .undo-narrow .ensures)
 
 returns-4 : tie.Need-returns-4
 returns-4 c =
-    let k = c .before .before in
-    let d = k .before .before in
-    put (d .before .before) (d .enum-told2 .given .1) (k .undo-follow .ensures)
+    let made = c .before .before in
+    let the-case = made .before .before in
+    put (the-case .before .before) (the-case .enum-told2 .given .1) (made .undo-follow .ensures)
 
 returns-5 : tie.Need-returns-5
 returns-5 c = put-other _ _ _ (c .enum-told3 .given .1)

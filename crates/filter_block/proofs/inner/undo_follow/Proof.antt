@@ -1,4 +1,5 @@
--- Bytes 1 to 256 are the follow bytes and the rest the data, as the definition takes them; undone, they are as many.
+-- Bytes 1 to 256 are the follow bytes and the rest the data, as the definition takes them; undone, the data
+-- are as long as they were.
 use Prim.Native.Nat.{_≤_}
 use native.Mathlib.Omega.{arith}
 use borrow.Author.Needs.{needs}
@@ -30,13 +31,13 @@ put-unfollowed-requires c κs =
     (given .1, given .2)
 
 sub-result : tie.Need-sub-result
-sub-result c = let k = c .before .before in omega (arith, long (k .before .before .before))
+sub-result c = let made = c .before .before in omega (arith, long (made .before .before .before))
 
 returns : tie.Need-returns
 returns c =
-    let k = c .before .before in
-    let s = at-part (k .before .before .before) in
-    follow-put (s .args .block .now) (s .args .out .now) (s .pre) (k .put-unfollowed .last .0) (k .put-unfollowed .ensures)
+    let made = c .before .before in
+    let s = at-part (made .before .before .before) in
+    follow-put (s .args .block .now) (s .args .out .now) (s .pre) (made .put-unfollowed .last .0) (made .put-unfollowed .ensures)
 
 pub undo-follow-spec : {M : Type 1} → statement M
 undo-follow-spec =

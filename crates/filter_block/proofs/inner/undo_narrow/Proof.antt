@@ -1,4 +1,5 @@
--- All but the format byte is widened to the front, which is the definition; the tests left no unit cut short, and room.
+-- All but the format byte is widened to the front, which is the definition; the tests left no unit that is cut short,
+-- and room for the result.
 use borrow.Author.Needs.{needs}
 use Rattle.filter_format.specs.Block.{headerLength}
 use Rattle.filter_block.proofs.Opening.{narrow-given, narrow-put}
@@ -22,11 +23,11 @@ put-widened-requires c κs = search narrow-given
 
 returns : tie.Need-returns
 returns c =
-    let k = c .before .before in
-    let s = at-part (k .before .before) in
-    let made = k .put-widened in
+    let made = c .before .before in
+    let s = at-part (made .before .before) in
+    let widened = made .put-widened in
     narrow-put (s .args .block .now) (s .args .out .now) (s .args .w) (s .pre)
-    (made .result) (made .last .0) (made .ensures .0) (made .ensures .1)
+    (widened .result) (widened .last .0) (widened .ensures .0) (widened .ensures .1)
 
 pub undo-narrow-spec : {M : Type 1} → statement M
 undo-narrow-spec =

@@ -13,9 +13,9 @@ copy-requires c κs = let s = c .before .before .before in omega (arith, raw-fit
 
 returns : tie.Need-returns
 returns c =
-    let k = c .before .before in
-    let s = k .before .before .before .before in
-    raw-put (s .args .block .now) (s .args .out .now) (s .pre) (k .copy .last .0) (k .copy .ensures)
+    let copied = c .before .before in
+    let s = copied .before .before .before .before in
+    raw-put (s .args .block .now) (s .args .out .now) (s .pre) (copied .copy .last .0) (copied .copy .ensures)
 
 pub undo-raw-spec : {M : Type 1} → statement M
 undo-raw-spec =

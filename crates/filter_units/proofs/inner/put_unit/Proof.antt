@@ -1,4 +1,4 @@
--- A unit of 1, 2 or 4 bytes: the branch that is taken says which, and puts the number's that many low bytes.
+-- A unit of 1, 2 or 4 bytes: the branch that is taken says which, and puts that many low bytes of the number.
 use mathlib.Core.Path.{_≡_}
 use native.Mathlib.Omega.{arith}
 use borrow.Author.Needs.{needs}
@@ -15,17 +15,17 @@ returns c = let a = c .before .before .args in put-one (a .s .now) (a .at) (a .w
 
 returns-2 : tie.Need-returns-2
 returns-2 c =
-    let k = c .before .before in
-    let two = k .before .before in
+    let made = c .before .before in
+    let two = made .before .before in
     let a = two .before .before .before .args in
-    put (a .s .now) (a .at) (a .w) 2 (a .v) (k .put16 .last .0) (two .if2 .taken) (k .put16 .ensures)
+    put (a .s .now) (a .at) (a .w) 2 (a .v) (made .put16 .last .0) (two .if2 .taken) (made .put16 .ensures)
 
 returns-3 : tie.Need-returns-3
 returns-3 c =
-    let k = c .before .before in
-    let four = k .before .before in
+    let made = c .before .before in
+    let four = made .before .before in
     let a = four .before .before .before .args in
-    put (a .s .now) (a .at) (a .w) 4 (a .v) (k .put32 .last .0) (width-4 four) (k .put32 .ensures)
+    put (a .s .now) (a .at) (a .w) 4 (a .v) (made .put32 .last .0) (width-4 four) (made .put32 .ensures)
 
 pub put-unit-spec : {M : Type 1} → statement M
 put-unit-spec =

@@ -143,13 +143,6 @@ long-bytes : (w p v : ℕ) (s : List ℕ) → Bytes s → p + w ≤ length s →
 long-bytes w p v s y h e =
     rw e (sym (stands-read p w (bytesOf w (number w p s)) s (length-bytesOf w (number w p s)) (number-stands w p s y h)))
 
--- the unit lies in the data, and there is room for it
-pub record Room (w i j to : ℕ) (s out₀ out : List ℕ) : Type 0 where
-  pub after : i < j
-  pub within : j ≤ length s
-  pub room : to + w ≤ length out
-  pub same : length out ≡ length out₀
-
 module _ {w i to : ℕ} {s out₀ out : List ℕ} (m : Widening w i to s out₀ out) where
   pub widening-same : length out ≡ length out₀
   widening-same = filling-same (m .filling)
@@ -161,13 +154,8 @@ module _ {w i to : ℕ} {s out₀ out : List ℕ} (m : Widening w i to s out₀ 
       (filling-count (m .filling) none ∙ omega arith, filling-done (m .filling) none)
 
   module _ {j : ℕ} {u : List ℕ} (t : Turn w i j u s) where
-    room : Room w i j to s out₀ out
-    room = record {
-      after = t .after;
-      within = t .within;
-      room = rw (t .long) at (filling-room (m .filling) u (widen w 0 (drop j s)) (t .widens));
-      same = widening-same;
-    }
+    fits : to + w ≤ length out
+    fits = rw (t .long) at (filling-room (m .filling) u (widen w 0 (drop j s)) (t .widens))
 
     more-by : (v : ℕ) (out′ : List ℕ) → bytesOf w v ≡ u → out′ ≡ putAt to (bytesOf w v) out → Widening w j (to + w) s out₀ out′
     more-by v out′ e d = record {
@@ -183,14 +171,11 @@ module _ {w i to : ℕ} {s out₀ out : List ℕ} (m : Widening w i to s out₀ 
     long : Turn w i (i + (w + 1)) (part (i + 1) w s) s
     long = long-turn w i s h e (long-within w i s h e (m .whole))
 
-    pub long-room : Room w i (i + (w + 1)) to s out₀ out
-    long-room = room long
-
     pub long-inside : i + 1 + w ≤ length s
     long-inside = omega (arith, long .within)
 
     pub long-fits : to + w ≤ length out
-    long-fits = long-room .room
+    long-fits = fits long
 
     pub long-more : (v : ℕ) (out′ : List ℕ) → v ≡ number w (i + 1) s
         → out′ ≡ putAt to (bytesOf w v) out → Widening w (i + (w + 1)) (to + w) s out₀ out′
@@ -201,11 +186,8 @@ module _ {w i to : ℕ} {s out₀ out : List ℕ} (m : Widening w i to s out₀ 
     short : Turn w i (i + 1) (bytesOf w (extended w (getD s i 0))) s
     short = short-turn w i s h n
 
-    pub short-room : Room w i (i + 1) to s out₀ out
-    short-room = room short
-
     pub short-fits : to + w ≤ length out
-    short-fits = short-room .room
+    short-fits = fits short
 
     pub short-more : (v : ℕ) (out′ : List ℕ) → v ≡ extended 4 (getD s i 0)
         → out′ ≡ putAt to (bytesOf w v) out → Widening w (i + 1) (to + w) s out₀ out′

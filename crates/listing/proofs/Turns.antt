@@ -13,13 +13,21 @@ use Rattle.sff_format.specs.ReadTest.{readTest}
 use Rattle.sff_format.specs.FileTest.{fileTest}
 use Rattle.sff_format.specs.Parse.{parseRead, parse}
 use Rattle.sff_format.specs.Walk.{firstBoundary, readStart, nextBoundary, Walk}
-use Rattle.sff_format.specs.View.{viewAt}
+use Rattle.sff_format.specs.View.{viewAt, bytesIn, viewFirst, viewLast, insertIn}
 use Rattle.sff_format.proofs.HeaderLaws.{characters-length}
 use Rattle.sff_format.proofs.FileLaid.{head-ok}
 use Rattle.sff_format.proofs.Walks.{walk-start, walk-end, walk-accepted, walk-reads, walk-next}
 use Rattle.sff_format.proofs.Views.{name-viewed}
 use Rattle.sff_format.proofs.Inserted.{size-viewed, first-viewed, last-viewed, insert-viewed}
+use Rattle.lines.specs.Lines.{readLine}
 use Rattle.listing.specs.Listing.{lineOf, linesFrom, viewLine}
+
+-- the line of a view, from its fields as the calls give them
+pub view-line : (b : List ℕ) (position : ℕ) (v : ReadView) {name insert : List ℕ} {first last : ℕ}
+    → name ≡ bytesIn b (v .name) → first ≡ viewFirst v → last ≡ viewLast v → insert ≡ insertIn v (bytesIn b (v .bases))
+    → readLine position name (v .bases .size) first last insert ≡ viewLine b position v
+unfolding viewLine
+view-line b position v n f l i = rw (n, f, l, i)
 
 -- the line of a view is the line of the read that it is of
 line-viewed : (characters b : List ℕ) (p i : ℕ) → Bytes b → readTest characters b p ≡ Accepted → viewLine b i (viewAt (length characters) b p) ≡ lineOf i (parseRead (length characters) b p)

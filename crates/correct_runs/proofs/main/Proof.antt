@@ -1,3 +1,5 @@
+-- Each turn corrects one pair more; twice the number of pairs is at most that of the arguments, so that no argument's
+-- number wraps.
 use Prim.Native.Nat.{_-_, _*_, _^_, _<_}
 use native.Mathlib.Omega.{arith}
 use borrow.Author.Needs.{needs}

@@ -1,4 +1,5 @@
--- At each turn the lines of the reads passed are measured, and those of the reads left are to come.
+-- Each turn takes the next read's line from the room, and the invariant says that what is left less the lines of the
+-- reads to come is the room less all of them.
 use Prim.Native.Nat.{_-_, _<_}
 use native.Mathlib.Omega.{arith}
 use borrow.Author.Needs.{needs}
@@ -31,7 +32,8 @@ loop-holds : tie.Need-loop-holds Inv-loop μ-loop
 loop-holds c =
     let known = c .before in
     let d = known .before in
-    listing-start _ _ (bytes-of (d .args .file .now) (λ j. known .shared-slice-known .given j .fits)) (d .pre .0) (c .first-boundary .ensures) (left-start _ _)
+    let bytes = bytes-of (d .args .file .now) (λ j. known .shared-slice-known .given j .fits) in
+    listing-start _ _ bytes (d .pre .0) (c .first-boundary .ensures) (left-start _ _)
 
 next-read-requires : tie.Need-next-read-requires Inv-loop μ-loop
 next-read-requires c κs = let l = c .before in let d = given l in (l .loop .inv .walk, (left c, (d .pre .1 .0, d .pre .1 .1)))
@@ -41,10 +43,15 @@ loop-again c =
     let line = c .before in
     let read = line .before in
     let turn = read .before in
-    listing-more (turn .before .loop .inv) (left turn) (read .next-read .ensures .0) _ (read .next-read .ensures .1) (λ rest k. left-more (viewLine _ _ (read .next-read .result .view)) rest k (line .after-view-line .ensures))
+    let n = read .next-read .ensures in
+    listing-more (turn .before .loop .inv) (left turn) (n .0) _ (n .1)
+    (λ rest k. left-more (viewLine _ _ (read .next-read .result .view)) rest k (line .after-view-line .ensures))
 
 returns : tie.Need-returns Inv-loop μ-loop
-returns c = let d = given (c .before) in left-done (listing-done (c .before .loop .inv) (omega (arith, c .loop-test .left, reads-of (d .args .header) _ (d .pre .1 .0))))
+returns c =
+    let d = given (c .before) in
+    let passed = reads-of (d .args .header) _ (d .pre .1 .0) in
+    left-done (listing-done (c .before .loop .inv) (omega (arith, c .loop-test .left, passed)))
 
 pub after-reads-spec : {M : Type 1} → statement M
 after-reads-spec =

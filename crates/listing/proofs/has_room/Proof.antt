@@ -1,3 +1,4 @@
+-- Room below 64 is never enough; else 7 * size + 64 is at most the room exactly if size is at most (room - 64) / 7.
 use Rattle.listing.proofs.Lengths.{no-room, room-is}
 use Rattle.listing.proofs.has_room.Statement.{statement}
 use Rattle.listing.proofs.has_room.Tie as tie

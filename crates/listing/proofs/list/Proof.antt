@@ -1,4 +1,4 @@
--- The listing is the lines of an accepted file, or the line of the refusal.
+-- An accepted file's listing is its lines, and a refused one's the line of the refusal, as the test of the file says.
 use mathlib.Core.Path.{sym, _∙_}
 use borrow.Author.Needs.{needs}
 use Rattle.text.proofs.Fitted.{counted}
@@ -12,19 +12,21 @@ put-file-requires c κs = sym (c .before .before .before .file-test .ensures) �
 
 returns : tie.Need-returns
 returns c =
-    let told = c .before .before .before .before in
+    let put = c .before .before in
+    let told = put .before .before in
     let tested = told .before .before in
     let a = tested .before .before .before .args in
     let e = listing-accepted (a .file .now) (sym (tested .file-test .ensures) ∙ told .enum-told .given .1) in
-    counted (listing (a .file .now)) (a .out .now) (rw e (c .before .before .put-file .ensures))
+    counted (listing (a .file .now)) (a .out .now) (rw e (put .put-file .ensures))
 
 returns-2 : tie.Need-returns-2
 returns-2 c =
-    let told = c .before .before .before .before .before in
+    let put = c .before .before in
+    let told = put .before .before .before in
     let tested = told .before .before in
     let a = tested .before .before .before .args in
     let e = listing-refused (a .file .now) _ _ (sym (tested .file-test .ensures) ∙ told .answer .given .1) in
-    counted (listing (a .file .now)) (a .out .now) (rw e (c .before .before .write-refusal .ensures))
+    counted (listing (a .file .now)) (a .out .now) (rw e (put .write-refusal .ensures))
 
 pub list-spec : {M : Type 1} → statement M
 list-spec =

@@ -1,4 +1,4 @@
--- What is printed is `too long`, or the listing.
+-- A longer input than 65,536 bytes prints `too long`, any other its listing.
 use borrow.Author.Needs.{needs}
 use Rattle.text.proofs.Fitted.{counted}
 use Rattle.listing.specs.Listing.{printed}
@@ -8,14 +8,17 @@ use Rattle.listing.proofs.print.Tie as tie
 
 returns : tie.Need-returns
 returns c =
-    let tested = c .before .before .before .before in
+    let put = c .before .before in
+    let tested = put .before .before in
     let a = tested .before .before .before .args in
-    counted (printed (a .input .now)) (a .out .now) (rw (printed-long (a .input .now) (tested .if1 .taken)) (c .before .before .write-too-long .ensures))
+    let e = printed-long (a .input .now) (tested .if1 .taken) in
+    counted (printed (a .input .now)) (a .out .now) (rw e (put .write-too-long .ensures))
 
 returns-2 : tie.Need-returns-2
 returns-2 c =
-    let tested = c .before .before .before .before in
-    rw (printed-short (tested .before .before .before .args .input .now) (tested .if1 .left)) (c .before .before .list .ensures)
+    let put = c .before .before in
+    let tested = put .before .before in
+    rw (printed-short (tested .before .before .before .args .input .now) (tested .if1 .left)) (put .list .ensures)
 
 pub print-spec : {M : Type 1} → statement M
 print-spec =

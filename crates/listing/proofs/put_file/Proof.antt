@@ -1,4 +1,5 @@
--- The lines of a file are its header's line and behind it those of its reads; they are put where they are found to fit.
+-- A file's lines are its header's line and behind it those of its reads: nothing is put where they are found not to
+-- fit, and else each of the two at its place.
 use Prim.Native.Nat.{_+_, _≤_}
 use mathlib.Core.Path.{_≡_, sym, _∙_}
 use mathlib.Core.List.{_++_}
@@ -15,19 +16,29 @@ use Rattle.listing.proofs.Whole.{header-whole, lines-are, both-fit}
 use Rattle.listing.proofs.put_file.Statement.{statement}
 use Rattle.listing.proofs.put_file.Tie as tie
 
-abbrev given : tie.After-stretch → tie.Start
-given c = c .before .before .before .before .before
+-- where the key's bytes are found and where the header is read, each from a place behind it, and the start
+abbrev at-key : tie.After-put-header-line-arg → tie.After-stretch
+at-key c = c .before .before .before
 
-lines : (c : tie.After-stretch) → let b = given c .args .file .now in let h = c .before .before .header-fields .result in
+abbrev at-header : tie.After-stretch → tie.After-header-fields
+at-header c = c .before .before
+
+abbrev start : tie.After-header-fields → tie.Start
+start c = c .before .before .before
+
+lines : (c : tie.After-stretch) → let b = start (at-header c) .args .file .now in let h = at-header c .header-fields .result in
     fileLines (parse b) ≡ headerLine (h .flows) (c .stretch .result .now) (h .reads) ++ linesFrom 0 (parse b .reads)
 lines c =
-    let h = c .before .before .header-fields in
+    let h = at-header c .header-fields in
     let e = h .ensures .0 in
-    lines-are _ (given c .pre) _ _ _ _ (sym (flows-of (h .result) _ e)) (sym (key-length-of (h .result) _ e)) (sym (reads-of (h .result) _ e)) (c .stretch .ensures)
+    lines-are _ (start (at-header c) .pre) _ _ _ _ (sym (flows-of (h .result) _ e)) (sym (key-length-of (h .result) _ e))
+    (sym (reads-of (h .result) _ e)) (c .stretch .ensures)
 
 -- they fit
-fits : (c : tie.After-put-header-line-arg) → let s = c .before .before .before in let h = s .before .before .header-fields .result in let a = given s .args in
-    length (headerLine (h .flows) (s .stretch .result .now) (h .reads)) + length (linesFrom 0 (parse (a .file .now) .reads)) ≤ length (a .out .now)
+fits : (c : tie.After-put-header-line-arg) → let k = at-key c in let h = at-header k in let r = h .header-fields .result in
+    let a = start h .args in
+    length (headerLine (r .flows) (k .stretch .result .now) (r .reads)) + length (linesFrom 0 (parse (a .file .now) .reads))
+    ≤ length (a .out .now)
 fits c =
     let measured = c .before .before in
     both-fit _ (headerLine _ _ _) (linesFrom 0 _) (lines (measured .before)) (sym (measured .lacks-room .ensures) ∙ c .before .if1 .left)
@@ -36,7 +47,9 @@ header-fields-requires : tie.Need-header-fields-requires
 header-fields-requires c κs = header-whole _ (c .before .before .pre)
 
 lacks-room-requires : tie.Need-lacks-room-requires
-lacks-room-requires c κs = let h = c .before .before .header-fields .ensures in (given c .pre, (h .0, (h .1, (lines c, search needs))))
+lacks-room-requires c κs =
+    let h = at-header c .header-fields .ensures in
+    (start (at-header c) .pre, (h .0, (h .1, (lines c, search needs))))
 
 returns : tie.Need-returns
 returns c = none-put _ _ (ltb-true _ _ (sym (c .before .lacks-room .ensures) ∙ c .if1 .taken))
@@ -46,18 +59,19 @@ put-header-line-requires c κs = two-1 _ (linesFrom 0 _) (room-both (headerLine 
 
 put-reads-requires : tie.Need-put-reads-requires
 put-reads-requires c κs =
-    let header = c .before .before .before in
-    let w = header .put-header-line .ensures in
-    let s = header .before .before .before .before in
-    let h = s .before .before .header-fields .ensures in
-    (given s .pre, (h .0, (h .1, two-2 _ _ (room-both (headerLine _ _ _) (linesFrom 0 _) _ (fits (header .before))) (w .0) (w .1))))
+    let line = c .before .before .before in
+    let w = line .put-header-line .ensures in
+    let read = at-header (at-key (line .before)) in
+    let h = read .header-fields .ensures in
+    let room = room-both (headerLine _ _ _) (linesFrom 0 _) _ (fits (line .before)) in
+    (start read .pre, (h .0, (h .1, two-2 _ _ room (w .0) (w .1))))
 
 returns-2 : tie.Need-returns-2
 returns-2 c =
     let reads = c .before .before in
-    let header = reads .before .before .before .before in
-    let s = header .before .before .before .before in
-    rw (lines s) (both-put _ _ _ (fits (header .before)) (header .put-header-line .ensures) (reads .put-reads .ensures))
+    let line = reads .before .before .before .before in
+    rw (lines (at-key (line .before)))
+    (both-put _ _ _ (fits (line .before)) (line .put-header-line .ensures) (reads .put-reads .ensures))
 
 pub put-file-spec : {M : Type 1} → statement M
 put-file-spec =

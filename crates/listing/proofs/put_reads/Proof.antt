@@ -1,4 +1,5 @@
--- At each turn the lines of the reads passed are put, and those of the reads left are to come.
+-- Each turn puts the next read's line, and the invariant says that what is put and the lines of the reads to come are
+-- together the whole.
 use Prim.Native.Nat.{_-_, _<_}
 use mathlib.Core.Path.{refl}
 use native.Mathlib.Omega.{arith}
@@ -32,7 +33,8 @@ loop-holds : tie.Need-loop-holds Inv-loop μ-loop
 loop-holds c =
     let known = c .before .before in
     let d = known .before in
-    listing-start _ _ (bytes-of (d .args .file .now) (λ j. known .shared-slice-known .given j .fits)) (d .pre .0) (c .first-boundary .ensures) (coming-start (d .pre .1 .1 .1))
+    let bytes = bytes-of (d .args .file .now) (λ j. known .shared-slice-known .given j .fits) in
+    listing-start _ _ bytes (d .pre .0) (c .first-boundary .ensures) (coming-start (d .pre .1 .1 .1))
 
 next-read-requires : tie.Need-next-read-requires Inv-loop μ-loop
 next-read-requires c κs = let l = c .before in let d = given l in (l .loop .inv .walk, (left c, (d .pre .1 .0, d .pre .1 .1 .0)))
@@ -48,13 +50,18 @@ loop-again c =
     let line = c .before .before .before in
     let read = line .before .before in
     let turn = read .before in
-    listing-more (turn .before .loop .inv) (left turn) (read .next-read .ensures .0) _ (read .next-read .ensures .1) (λ rest k. coming-put k _ rest refl (line .put-view-line .ensures))
+    let n = read .next-read .ensures in
+    listing-more (turn .before .loop .inv) (left turn) (n .0) _ (n .1)
+    (λ rest k. coming-put k _ rest refl (line .put-view-line .ensures))
 
 same-length : tie.Need-same-length Inv-loop μ-loop
 same-length c = c .before .loop .inv .coming .same
 
 returns : tie.Need-returns Inv-loop μ-loop
-returns c = let d = given (c .before) in coming-done (listing-done (c .before .loop .inv) (omega (arith, c .loop-test .left, reads-of (d .args .header) _ (d .pre .1 .0)))) refl
+returns c =
+    let d = given (c .before) in
+    let passed = reads-of (d .args .header) _ (d .pre .1 .0) in
+    coming-done (listing-done (c .before .loop .inv) (omega (arith, c .loop-test .left, passed))) refl
 
 pub put-reads-spec : {M : Type 1} → statement M
 put-reads-spec =

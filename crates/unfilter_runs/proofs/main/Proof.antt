@@ -1,3 +1,4 @@
+-- Each turn prints one block more, and the argument that is next comes nearer to the number of arguments.
 use Prim.Native.Nat.{_-_}
 use borrow.Author.Needs.{needs}
 use Rattle.unfilter_runs.proofs.main.Statement.{statement}

@@ -9,13 +9,6 @@ use Rattle.unfiltering.proofs.Texts.{data-held, refusal-held}
 use Rattle.unfiltering.proofs.put_undone.Statement.{statement}
 use Rattle.unfiltering.proofs.put_undone.Tie as tie
 
-returns : tie.Need-returns
-returns c =
-    let undone = at-undone (c .before .before) in
-    let a = at-start undone .args in
-    let u = undone .undo .ensures in
-    data-held (result undone) (u .0) (a .first .now) _ (a .second .now) (omega arith) (u .1 .1) (c .enum-told .given .1) (u .1 .0)
-
 -- where the block is undone, and the start
 abbrev at-undone : tie.After-slice-known4 → tie.After-undo
 at-undone c = c .before .before .before .before
@@ -26,6 +19,13 @@ at-start c = let known = c .before .before .before in known .before .before .bef
 -- what undoing comes to
 abbrev result : tie.After-undo → Result
 result c = let a = at-start c .args in undo (roomOf (a .first .now) (a .second .now)) (a .block .now)
+
+returns : tie.Need-returns
+returns c =
+    let undone = at-undone (c .before .before) in
+    let a = at-start undone .args in
+    let u = undone .undo .ensures in
+    data-held (result undone) (u .0) (a .first .now) _ (a .second .now) (omega arith) (u .1 .1) (c .enum-told .given .1) (u .1 .0)
 
 clear-behind-requires : tie.Need-clear-behind-requires
 clear-behind-requires c κs =

@@ -1,4 +1,4 @@
--- The sum is what the code adds.
+-- A digit below 10 keeps its value as a byte, and 48 more than it is still one: the sum is what the contract says.
 use mathlib.Core.Path.{refl}
 use borrow.Author.Needs.{needs}
 use Rattle.text.proofs.inner.digit_byte.Statement.{statement}

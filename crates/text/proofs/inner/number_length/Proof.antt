@@ -1,3 +1,4 @@
+-- The count of at most 20 digits is their number, and it is never above 20.
 use borrow.Author.Needs.{needs}
 use Rattle.text.proofs.Decimal.{counted-short}
 use Rattle.text.proofs.inner.number_length.Statement.{statement}

@@ -1,3 +1,4 @@
+-- One store at a place inside the buffer is a piece of one byte put there.
 use borrow.Author.Needs.{needs}
 use Rattle.text.proofs.Writing.{wrote-byte}
 use Rattle.text.proofs.inner.put_byte.Statement.{statement}

@@ -1,3 +1,4 @@
+-- The copy is of the whole source, from its front to its length.
 use borrow.Author.Needs.{needs}
 use Rattle.text.proofs.Writing.{wrote-bytes}
 use Rattle.text.proofs.inner.put_bytes.Statement.{statement}

@@ -1,3 +1,4 @@
+-- The test is the definition's: an empty source counts as the dash, of one byte, any other as its own length.
 use Rattle.text.proofs.Writing.{dash-length, word-length}
 use Rattle.text.proofs.inner.word_length.Statement.{statement}
 use Rattle.text.proofs.inner.word_length.Tie as tie

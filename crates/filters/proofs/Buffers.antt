@@ -11,12 +11,7 @@ use Rattle.answers.specs.declared.Answer.{Answer}
 use Rattle.answers.specs.declared.Answer.the-variants.{Accepted}
 use Rattle.filter_format.specs.declared.Filtered.{Filtered}
 use Rattle.filter_format.specs.Undo.{Result, making, refusing, filtered, secondAfter}
-use Rattle.filters.specs.Sides.{after}
-
--- the answer and both buffers after a call, where `is-first` says whether `here` is the caller's first: the three
--- promises of a function that undoes
-abbrev pub Undid : Result → Bool → List ℕ → List ℕ → List ℕ → List ℕ → Filtered → Type 0
-Undid result is-first here here' there there' r = (r ≡ filtered result) × ((here' ≡ after is-first result here) × (there' ≡ after (not is-first) result there))
+use Rattle.filters.specs.Sides.{Undid}
 
 -- xs, n bytes of it, was put at the front of s, which is s₁ then
 pub record Holds (n : ℕ) (xs s s₁ : List ℕ) : Type 0 where

@@ -17,7 +17,8 @@ use Rattle.filter_format.specs.declared.Filtered.{Filtered}
 use Rattle.filter_format.specs.Block.{filterAt, isRaw, headerLength, undone}
 use Rattle.filter_format.specs.Undo.{making, refusing, filtered, secondAfter, roomOf, blockTest, layerTest, undoFrom, undoLayer}
 use Rattle.filter_block.specs.Tests.{Opens}
-use Rattle.filters.proofs.Buffers.{Undid, Holds, held-length, held-front, placed, as-long, swapped, refused}
+use Rattle.filters.specs.Sides.{Undid}
+use Rattle.filters.proofs.Buffers.{Holds, held-length, held-front, placed, as-long, swapped, refused}
 use Rattle.filters.proofs.Chain.{undo-refused, undo-raw, undo-layer, block-opens, layer-opens, raw-is, raw-part}
 
 -- what the code was told of a block b: the room between two buffers, its filter, and the answer of its tests

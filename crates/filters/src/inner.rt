@@ -1,7 +1,6 @@
 // No entry points: the blocks here stand in one of the two lent buffers. `choose` and `layer` call each other; at each
 // layer the buffers change places and one filter less may be opened.
 ghost use mathlib.Core.Path.{_≡_};
-ghost use mathlib.Core.Bool.{not};
 ghost use Prim.Native.Nat.{_-_, _<_, _≤_};
 ghost use lib.ListN.{length, take};
 ghost use Rattle.octets.specs.Parts.{part};
@@ -9,7 +8,7 @@ ghost use Rattle.answers.specs.declared.Answer.the-variants.{Refused};
 ghost use Rattle.filter_format.specs.Block.{filterAt, undone};
 ghost use Rattle.filter_format.specs.Undo.{filtered, refusing, making, firstAfter, secondAfter, roomOf, blockTest, layerTest, undoFrom};
 ghost use Rattle.filter_block.specs.Tests.{Opens};
-ghost use Rattle.filters.specs.Sides.{after};
+ghost use Rattle.filters.specs.Sides.{Undid};
 use answers::Answer;
 use buffers::inner::clear_behind;
 use buffers::inner::copy;
@@ -112,9 +111,8 @@ pub(crate) fn choose(
     is_first: bool,
 ) -> Filtered
     requires { ⌜ len ≤ length (now here) ⌝ }
-    ensures { λ r. ⌜ r ≡ filtered (undoFrom left (roomOf (now (here .entry)) (now (there .entry))) (take len (now (here .entry)))) ⌝ }
-    ensures { λ _. ⌜ now (here .exit) ≡ after «is_first» (undoFrom left (roomOf (now (here .entry)) (now (there .entry))) (take len (now (here .entry)))) (now (here .entry)) ⌝ }
-    ensures { λ _. ⌜ now (there .exit) ≡ after (not «is_first») (undoFrom left (roomOf (now (here .entry)) (now (there .entry))) (take len (now (here .entry)))) (now (there .entry)) ⌝ }
+    ensures { λ r. ⌜ Undid (undoFrom left (roomOf (now (here .entry)) (now (there .entry))) (take len (now (here .entry))))
+        «is_first» (now (here .entry)) (now (here .exit)) (now (there .entry)) (now (there .exit)) r ⌝ }
 {
     let room = least(here.len(), there.len());
     let filter = filter_at(&here[..len]);
@@ -142,9 +140,8 @@ fn layer(
     filter: Filter,
 ) -> Filtered
     requires { ⌜ (0 < left) × (len ≤ length (now here)) × (Opens filter (take len (now here)) (length (now there))) ⌝ }
-    ensures { λ r. ⌜ r ≡ filtered (undoFrom (left - 1) (roomOf (now (here .entry)) (now (there .entry))) (undone filter (take len (now (here .entry))))) ⌝ }
-    ensures { λ _. ⌜ now (here .exit) ≡ after «is_first» (undoFrom (left - 1) (roomOf (now (here .entry)) (now (there .entry))) (undone filter (take len (now (here .entry))))) (now (here .entry)) ⌝ }
-    ensures { λ _. ⌜ now (there .exit) ≡ after (not «is_first») (undoFrom (left - 1) (roomOf (now (here .entry)) (now (there .entry))) (undone filter (take len (now (here .entry))))) (now (there .entry)) ⌝ }
+    ensures { λ r. ⌜ Undid (undoFrom (left - 1) (roomOf (now (here .entry)) (now (there .entry))) (undone filter (take len (now (here .entry)))))
+        «is_first» (now (here .entry)) (now (here .exit)) (now (there .entry)) (now (there .exit)) r ⌝ }
 {
     let made = undo_filter(there, filter, &here[..len]);
     choose(there, here, made, left - 1, !is_first)

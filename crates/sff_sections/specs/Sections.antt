@@ -1,11 +1,13 @@
 -- The sections that are written, by the lists and the numbers that the code is given. Assumes nothing: these are
 -- definitions.
 use Prim.Native.Nat.{ℕ, _+_}
+use mathlib.Core.Path.{_≡_}
 use mathlib.Core.List.{List, [], _∷_, _++_}
 use lib.ListN.{length}
-use Rattle.octets.specs.Parts.{up8, padded}
+use Rattle.octets.specs.Parts.{putAt, up8, padded}
 use Rattle.octets.specs.Numbers.{fields, words}
 use Rattle.sff_format.specs.declared.Clips.{Clips}
+use Rattle.sff_format.specs.Model.{Read, layoutRead}
 
 -- "quality left, quality right, adapter left, adapter right (2 each, in that order)"
 unfoldable pub clipFields : Clips → List (ℕ × ℕ)
@@ -33,3 +35,7 @@ startFields = (4, 0x2E736666) ∷ (4, 1) ∷ (8, 0) ∷ (4, 0) ∷ (4, 0) ∷ []
 -- "header length at 24 (2), key length K at 26 (2), flows F at 28 (2), format code at 30 (1, must be 1)"
 unfoldable pub lengthFields : ℕ → ℕ → List (ℕ × ℕ)
 lengthFields F K = (2, up8 (31 + F + K)) ∷ (2, K) ∷ (2, F) ∷ (1, 1) ∷ []
+
+-- a read is put at place `at` of a buffer: what the buffer holds then
+abbrev pub ReadPut : ℕ → Read → List ℕ → List ℕ → Type 0
+ReadPut at read buffer after = after ≡ putAt at (layoutRead read) buffer

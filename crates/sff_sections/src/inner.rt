@@ -4,9 +4,9 @@ ghost use Prim.Native.Nat.{_+_, _-_, _*_, _≤_, _<_};
 ghost use lib.ListN.{length, replicate};
 ghost use Rattle.octets.specs.Parts.{putAt, up8};
 ghost use Rattle.octets.specs.Numbers.{fields};
-ghost use Rattle.sff_format.specs.Model.{layoutRead, layout};
+ghost use Rattle.sff_format.specs.Model.{layout};
 ghost use Rattle.sff_format.specs.Writing.{newFile, readOf};
-ghost use Rattle.sff_sections.specs.Sections.{clipFields, sectionFields, headerSection, dataSection, startFields, lengthFields};
+ghost use Rattle.sff_sections.specs.Sections.{clipFields, sectionFields, headerSection, dataSection, startFields, lengthFields, ReadPut};
 use buffers::inner::copy;
 use buffers::inner::fill;
 use buffers::inner::put_words;
@@ -117,7 +117,9 @@ pub fn put_read(
     requires { ⌜ at + (up8 (16 + length (now name)) + up8 (2 * length (now values) + 3 * length (now bases))) ≤ length (now s) ⌝ }
     requires { ⌜ length (now name) ≤ 65512 ⌝ }
     requires { ⌜ (length (now increments) ≡ length (now bases)) × (length (now qualities) ≡ length (now bases)) ⌝ }
-    ensures { λ _. ⌜ now (s .exit) ≡ putAt at (layoutRead (readOf (now (name .entry)) clips (now (values .entry)) (now (increments .entry)) (now (bases .entry)) (now (qualities .entry)))) (now (s .entry)) ⌝ }
+    ensures { λ _. ⌜ ReadPut at
+        (readOf (now (name .entry)) clips (now (values .entry)) (now (increments .entry)) (now (bases .entry)) (now (qualities .entry)))
+        (now (s .entry)) (now (s .exit)) ⌝ }
 {
     put_read_header(s, at, name, bases.len(), clips);
     put_read_data(

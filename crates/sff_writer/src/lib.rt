@@ -5,7 +5,7 @@ ghost use Prim.Native.Nat.{_<_};
 ghost use lib.ListN.{length};
 ghost use Rattle.answers.specs.Answer.{own};
 ghost use Rattle.sff_format.specs.ReadTest.{clipTest};
-ghost use Rattle.sff_format.specs.Writing.{newTest, newOutcome, newBuffer, readOf, badCounts, givenTest, openTest, appendTest, appendOutcome, appendBuffer};
+ghost use Rattle.sff_format.specs.Writing.{newTest, newOutcome, newBuffer, readOf, badCounts, givenTest, openTest, appendTest, ReadAppended};
 use answers::Answer;
 use buffers::inner::put32;
 use octets::ByteTest;
@@ -157,7 +157,8 @@ fn append_test(
     bases: &[u8],
     qualities: &[u8],
 ) -> Answer
-    ensures { λ r. ⌜ r ≡ appendTest (now (buffer .entry)) «file_length» (readOf (now (name .entry)) clips (now (values .entry)) (now (increments .entry)) (now (bases .entry)) (now (qualities .entry))) ⌝ }
+    ensures { λ r. ⌜ r ≡ appendTest (now (buffer .entry)) «file_length»
+        (readOf (now (name .entry)) clips (now (values .entry)) (now (increments .entry)) (now (bases .entry)) (now (qualities .entry))) ⌝ }
 {
     if file_length > buffer.len() {
         return Answer::Refused(14, 0);
@@ -198,8 +199,9 @@ pub fn append(
     bases: &[u8],
     qualities: &[u8],
 ) -> Outcome
-    ensures { λ r. ⌜ r ≡ appendOutcome (now (buffer .entry)) «file_length» (readOf (now (name .entry)) clips (now (values .entry)) (now (increments .entry)) (now (bases .entry)) (now (qualities .entry))) ⌝ }
-    ensures { λ _. ⌜ now (buffer .exit) ≡ appendBuffer (now (buffer .entry)) «file_length» (readOf (now (name .entry)) clips (now (values .entry)) (now (increments .entry)) (now (bases .entry)) (now (qualities .entry))) ⌝ }
+    ensures { λ r. ⌜ ReadAppended (now (buffer .entry)) «file_length»
+        (readOf (now (name .entry)) clips (now (values .entry)) (now (increments .entry)) (now (bases .entry)) (now (qualities .entry)))
+        r (now (buffer .exit)) ⌝ }
 {
     let answer = append_test(
         buffer,

@@ -1,20 +1,9 @@
 // C exports of the library's calls, for tests and benchmarks alone. No host calls them.
-ghost use mathlib.Core.Path.{_≡_};
-ghost use lib.ListN.{length};
-ghost use Rattle.answers.specs.Answer.{numberOf, placeOf};
-ghost use Rattle.sff_format.specs.HeaderTest.{headerTest, fileFlowCharacters, fileKey};
-ghost use Rattle.sff_format.specs.FileTest.{fileTest};
-ghost use Rattle.sff_format.specs.View.{viewTest};
-ghost use Rattle.sff_format.specs.Step.{fresh, step};
-ghost use Rattle.sff_format.specs.Position.{positionTest, signalTest, fileInsert, fileFirst, fileLast};
-ghost use Rattle.sff_format.specs.Writing.{newOutcome, newBuffer, readOf, appendOutcome, appendBuffer};
-ghost use Rattle.sff_correction.specs.Correct.{correctOutcome, correctBuffer};
-ghost use Rattle.sff_correction.specs.ListRun.{runList};
-ghost use Rattle.sff_signal.specs.Signal.{fileSignal};
-ghost use Rattle.filter_format.specs.Undo.{roomOf, firstAfter, secondAfter, undo, undoLayer};
-ghost use Rattle.filter_format.specs.Encode.{encode, outAfter};
-ghost use Rattle.harness_files.specs.Outs.{stateFrom, viewFrom, flag, steppedWith, steppedOf, putFront, clipsFrom};
-ghost use Rattle.harness_filters.specs.Samples.{samples};
+ghost use Rattle.host_calls.specs.Outs.{Tested, Corrected};
+ghost use Rattle.harness_files.specs.Outs.{FlowCharactersCopied, KeyCopied, ViewTested, StateMade, SteppedOn};
+ghost use Rattle.harness_files.specs.Outs.{InsertCopied, SignalSummarised, FileMade, ReadAppended};
+ghost use Rattle.harness_corrections.specs.Outs.{ListCorrected};
+ghost use Rattle.harness_filters.specs.Outs.{Undone, LayerUndone, Encoded, SamplesFiltered};
 use harness_corrections::correct_list_out;
 use harness_files::append_out;
 use harness_files::flow_characters_out;
@@ -34,8 +23,7 @@ use host_calls::test_out;
 
 #[no_mangle]
 pub extern "C" fn h_test(file: &[u8], place: &mut u64) -> u64
-    ensures { λ r. ⌜ r ≡ numberOf (fileTest (now (file .entry))) ⌝ }
-    ensures { λ _. ⌜ now (place .exit) ≡ placeOf (fileTest (now (file .entry))) ⌝ }
+    ensures { λ r. ⌜ Tested (now (file .entry)) r (now (place .exit)) ⌝ }
 {
     test_out(file, place)
 }
@@ -49,10 +37,8 @@ pub extern "C" fn h_flow_characters(
     place: &mut u64,
     made: &mut u64,
 ) -> u64
-    ensures { λ r. ⌜ r ≡ numberOf (headerTest (now (file .entry))) ⌝ }
-    ensures { λ _. ⌜ now (place .exit) ≡ placeOf (headerTest (now (file .entry))) ⌝ }
-    ensures { λ _. ⌜ now (made .exit) ≡ length (fileFlowCharacters (now (file .entry))) ⌝ }
-    ensures { λ _. ⌜ now (out .exit) ≡ putFront (fileFlowCharacters (now (file .entry))) (now (out .entry)) ⌝ }
+    ensures { λ r. ⌜ FlowCharactersCopied (now (file .entry)) (now (out .entry))
+        r (now (place .exit)) (now (made .exit)) (now (out .exit)) ⌝ }
 {
     flow_characters_out(file, out, place, made)
 }
@@ -60,10 +46,7 @@ pub extern "C" fn h_flow_characters(
 // The same of the key.
 #[no_mangle]
 pub extern "C" fn h_key(file: &[u8], out: &mut [u8], place: &mut u64, made: &mut u64) -> u64
-    ensures { λ r. ⌜ r ≡ numberOf (headerTest (now (file .entry))) ⌝ }
-    ensures { λ _. ⌜ now (place .exit) ≡ placeOf (headerTest (now (file .entry))) ⌝ }
-    ensures { λ _. ⌜ now (made .exit) ≡ length (fileKey (now (file .entry))) ⌝ }
-    ensures { λ _. ⌜ now (out .exit) ≡ putFront (fileKey (now (file .entry))) (now (out .entry)) ⌝ }
+    ensures { λ r. ⌜ KeyCopied (now (file .entry)) (now (out .entry)) r (now (place .exit)) (now (made .exit)) (now (out .exit)) ⌝ }
 {
     key_out(file, out, place, made)
 }
@@ -72,8 +55,7 @@ pub extern "C" fn h_key(file: &[u8], out: &mut [u8], place: &mut u64, made: &mut
 // order. What is not given is 0.
 #[no_mangle]
 pub extern "C" fn h_view_test(file: &[u8], view: &[u64], place: &mut u64) -> u64
-    ensures { λ r. ⌜ r ≡ numberOf (viewTest (now (file .entry)) (viewFrom (now (view .entry)))) ⌝ }
-    ensures { λ _. ⌜ now (place .exit) ≡ placeOf (viewTest (now (file .entry)) (viewFrom (now (view .entry)))) ⌝ }
+    ensures { λ r. ⌜ ViewTested (now (file .entry)) (now (view .entry)) r (now (place .exit)) ⌝ }
 {
     view_test_out(file, view, place)
 }
@@ -92,8 +74,9 @@ pub extern "C" fn h_step(
     bases: &mut u64,
     clips: &mut u64,
 ) -> u64
-    ensures { λ r. ⌜ steppedWith r (now (place .exit)) (now (at .exit)) (now (passed .exit)) (now («index_passed» .exit)) (now («read_start» .exit)) (now («name_length» .exit)) (now (bases .exit)) (now (clips .exit))
-        ≡ steppedOf (step (now (file .entry)) (stateFrom (now (at .entry)) (now (passed .entry)) (now («index_passed» .entry)))) ⌝ }
+    ensures { λ r. ⌜ SteppedOn (now (file .entry)) (now (at .entry)) (now (passed .entry)) (now («index_passed» .entry))
+        r (now (at .exit)) (now (passed .exit)) (now («index_passed» .exit)) (now (place .exit))
+        (now («read_start» .exit)) (now («name_length» .exit)) (now (bases .exit)) (now (clips .exit)) ⌝ }
 {
     step_out(
         file,
@@ -115,10 +98,7 @@ pub extern "C" fn h_fresh(
     passed: &mut u64,
     index_passed: &mut u64,
 ) -> u64
-    ensures { λ r. ⌜ r ≡ 0 ⌝ }
-    ensures { λ _. ⌜ now (at .exit) ≡ fresh (now (file .entry)) .place ⌝ }
-    ensures { λ _. ⌜ now (passed .exit) ≡ fresh (now (file .entry)) .passed-reads ⌝ }
-    ensures { λ _. ⌜ now («index_passed» .exit) ≡ flag (fresh (now (file .entry)) .passed-index) ⌝ }
+    ensures { λ r. ⌜ StateMade (now (file .entry)) r (now (at .exit)) (now (passed .exit)) (now («index_passed» .exit)) ⌝ }
 {
     fresh_out(file, at, passed, index_passed)
 }
@@ -135,12 +115,8 @@ pub extern "C" fn h_insert(
     last: &mut u64,
     made: &mut u64,
 ) -> u64
-    ensures { λ r. ⌜ r ≡ numberOf (positionTest (now (file .entry)) position) ⌝ }
-    ensures { λ _. ⌜ now (place .exit) ≡ placeOf (positionTest (now (file .entry)) position) ⌝ }
-    ensures { λ _. ⌜ now (first .exit) ≡ fileFirst (now (file .entry)) position ⌝ }
-    ensures { λ _. ⌜ now (last .exit) ≡ fileLast (now (file .entry)) position ⌝ }
-    ensures { λ _. ⌜ now (made .exit) ≡ length (fileInsert (now (file .entry)) position) ⌝ }
-    ensures { λ _. ⌜ now (out .exit) ≡ putFront (fileInsert (now (file .entry)) position) (now (out .entry)) ⌝ }
+    ensures { λ r. ⌜ InsertCopied (now (file .entry)) position (now (out .entry))
+        r (now (place .exit)) (now (first .exit)) (now (last .exit)) (now (made .exit)) (now (out .exit)) ⌝ }
 {
     insert_out(file, position, out, place, first, last, made)
 }
@@ -154,11 +130,8 @@ pub extern "C" fn h_signal(
     mean: &mut f64,
     place: &mut u64,
 ) -> u64
-    ensures { λ r. ⌜ r ≡ numberOf (signalTest (now (file .entry)) position) ⌝ }
-    ensures { λ _. ⌜ now (place .exit) ≡ placeOf (signalTest (now (file .entry)) position) ⌝ }
-    ensures { λ _. ⌜ now (strongest .exit) ≡ fileSignal (now (file .entry)) position .strongest ⌝ }
-    ensures { λ _. ⌜ now (weakest .exit) ≡ fileSignal (now (file .entry)) position .weakest ⌝ }
-    ensures { λ _. ⌜ now (mean .exit) ≡ fileSignal (now (file .entry)) position .mean ⌝ }
+    ensures { λ r. ⌜ SignalSummarised (now (file .entry)) position
+        r (now (strongest .exit)) (now (weakest .exit)) (now (mean .exit)) (now (place .exit)) ⌝ }
 {
     signal_out(file, position, strongest, weakest, mean, place)
 }
@@ -172,10 +145,8 @@ pub extern "C" fn h_new(
     place: &mut u64,
     length_after: &mut u64,
 ) -> u64
-    ensures { λ r. ⌜ r ≡ numberOf (newOutcome (now (buffer .entry)) (now (flows .entry)) (now (key .entry)) .answer) ⌝ }
-    ensures { λ _. ⌜ now (place .exit) ≡ placeOf (newOutcome (now (buffer .entry)) (now (flows .entry)) (now (key .entry)) .answer) ⌝ }
-    ensures { λ _. ⌜ now («length_after» .exit) ≡ newOutcome (now (buffer .entry)) (now (flows .entry)) (now (key .entry)) .length ⌝ }
-    ensures { λ _. ⌜ now (buffer .exit) ≡ newBuffer (now (buffer .entry)) (now (flows .entry)) (now (key .entry)) ⌝ }
+    ensures { λ r. ⌜ FileMade (now (buffer .entry)) (now (flows .entry)) (now (key .entry))
+        r (now (place .exit)) (now («length_after» .exit)) (now (buffer .exit)) ⌝ }
 {
     new_out(buffer, flows, key, place, length_after)
 }
@@ -193,10 +164,9 @@ pub extern "C" fn h_append(
     place: &mut u64,
     length_after: &mut u64,
 ) -> u64
-    ensures { λ r. ⌜ r ≡ numberOf (appendOutcome (now (buffer .entry)) «file_length» (readOf (now (name .entry)) (clipsFrom clips) (now (values .entry)) (now (increments .entry)) (now (bases .entry)) (now (qualities .entry))) .answer) ⌝ }
-    ensures { λ _. ⌜ now (place .exit) ≡ placeOf (appendOutcome (now (buffer .entry)) «file_length» (readOf (now (name .entry)) (clipsFrom clips) (now (values .entry)) (now (increments .entry)) (now (bases .entry)) (now (qualities .entry))) .answer) ⌝ }
-    ensures { λ _. ⌜ now («length_after» .exit) ≡ appendOutcome (now (buffer .entry)) «file_length» (readOf (now (name .entry)) (clipsFrom clips) (now (values .entry)) (now (increments .entry)) (now (bases .entry)) (now (qualities .entry))) .length ⌝ }
-    ensures { λ _. ⌜ now (buffer .exit) ≡ appendBuffer (now (buffer .entry)) «file_length» (readOf (now (name .entry)) (clipsFrom clips) (now (values .entry)) (now (increments .entry)) (now (bases .entry)) (now (qualities .entry))) ⌝ }
+    ensures { λ r. ⌜ ReadAppended (now (buffer .entry)) «file_length» (now (name .entry)) clips
+        (now (values .entry)) (now (increments .entry)) (now (bases .entry)) (now (qualities .entry))
+        r (now (place .exit)) (now («length_after» .exit)) (now (buffer .exit)) ⌝ }
 {
     append_out(
         buffer,
@@ -220,10 +190,8 @@ pub extern "C" fn h_correct(
     place: &mut u64,
     length_after: &mut u64,
 ) -> u64
-    ensures { λ r. ⌜ r ≡ numberOf (correctOutcome (now (buffer .entry)) «file_length» (now («record» .entry)) .answer) ⌝ }
-    ensures { λ _. ⌜ now (place .exit) ≡ placeOf (correctOutcome (now (buffer .entry)) «file_length» (now («record» .entry)) .answer) ⌝ }
-    ensures { λ _. ⌜ now («length_after» .exit) ≡ correctOutcome (now (buffer .entry)) «file_length» (now («record» .entry)) .length ⌝ }
-    ensures { λ _. ⌜ now (buffer .exit) ≡ correctBuffer (now (buffer .entry)) «file_length» (now («record» .entry)) ⌝ }
+    ensures { λ r. ⌜ Corrected (now (buffer .entry)) «file_length» (now («record» .entry))
+        r (now (place .exit)) (now («length_after» .exit)) (now (buffer .exit)) ⌝ }
 {
     correct_out(buffer, file_length, record, place, length_after)
 }
@@ -237,21 +205,16 @@ pub extern "C" fn h_correct_list(
     place: &mut u64,
     length_after: &mut u64,
 ) -> u64
-    ensures { λ r. ⌜ r ≡ numberOf (runList (now (buffer .entry)) «file_length» (now (list .entry)) .outcome .answer) ⌝ }
-    ensures { λ _. ⌜ now (count .exit) ≡ runList (now (buffer .entry)) «file_length» (now (list .entry)) .outcome .count ⌝ }
-    ensures { λ _. ⌜ now (place .exit) ≡ placeOf (runList (now (buffer .entry)) «file_length» (now (list .entry)) .outcome .answer) ⌝ }
-    ensures { λ _. ⌜ now («length_after» .exit) ≡ runList (now (buffer .entry)) «file_length» (now (list .entry)) .outcome .length ⌝ }
-    ensures { λ _. ⌜ now (buffer .exit) ≡ runList (now (buffer .entry)) «file_length» (now (list .entry)) .buffer ⌝ }
+    ensures { λ r. ⌜ ListCorrected (now (buffer .entry)) «file_length» (now (list .entry))
+        r (now (count .exit)) (now (place .exit)) (now («length_after» .exit)) (now (buffer .exit)) ⌝ }
 {
     correct_list_out(buffer, file_length, list, count, place, length_after)
 }
 
 #[no_mangle]
 pub extern "C" fn h_undo(block: &[u8], first: &mut [u8], second: &mut [u8], made: &mut u64) -> u64
-    ensures { λ r. ⌜ r ≡ numberOf (undo (roomOf (now (first .entry)) (now (second .entry))) (now (block .entry)) .answer) ⌝ }
-    ensures { λ _. ⌜ now (made .exit) ≡ length (undo (roomOf (now (first .entry)) (now (second .entry))) (now (block .entry)) .bytes) ⌝ }
-    ensures { λ _. ⌜ now (first .exit) ≡ firstAfter (undo (roomOf (now (first .entry)) (now (second .entry))) (now (block .entry))) (now (first .entry)) ⌝ }
-    ensures { λ _. ⌜ now (second .exit) ≡ secondAfter (now (second .entry)) ⌝ }
+    ensures { λ r. ⌜ Undone (now (block .entry)) (now (first .entry)) (now (second .entry))
+        r (now (made .exit)) (now (first .exit)) (now (second .exit)) ⌝ }
 {
     undo_out(block, first, second, made)
 }
@@ -263,10 +226,8 @@ pub extern "C" fn h_undo_layer(
     second: &mut [u8],
     made: &mut u64,
 ) -> u64
-    ensures { λ r. ⌜ r ≡ numberOf (undoLayer (roomOf (now (first .entry)) (now (second .entry))) (now (block .entry)) .answer) ⌝ }
-    ensures { λ _. ⌜ now (made .exit) ≡ length (undoLayer (roomOf (now (first .entry)) (now (second .entry))) (now (block .entry)) .bytes) ⌝ }
-    ensures { λ _. ⌜ now (first .exit) ≡ firstAfter (undoLayer (roomOf (now (first .entry)) (now (second .entry))) (now (block .entry))) (now (first .entry)) ⌝ }
-    ensures { λ _. ⌜ now (second .exit) ≡ secondAfter (now (second .entry)) ⌝ }
+    ensures { λ r. ⌜ LayerUndone (now (block .entry)) (now (first .entry)) (now (second .entry))
+        r (now (made .exit)) (now (first .exit)) (now (second .exit)) ⌝ }
 {
     undo_layer_out(block, first, second, made)
 }
@@ -280,9 +241,8 @@ pub extern "C" fn h_encode(
     out: &mut [u8],
     made: &mut u64,
 ) -> u64
-    ensures { λ r. ⌜ r ≡ numberOf (encode (length (now (out .entry))) format level (now (follow .entry)) (now (source .entry)) .answer) ⌝ }
-    ensures { λ _. ⌜ now (made .exit) ≡ length (encode (length (now (out .entry))) format level (now (follow .entry)) (now (source .entry)) .bytes) ⌝ }
-    ensures { λ _. ⌜ now (out .exit) ≡ outAfter (encode (length (now (out .entry))) format level (now (follow .entry)) (now (source .entry))) (now (out .entry)) ⌝ }
+    ensures { λ r. ⌜ Encoded format level (now (follow .entry)) (now (source .entry)) (now (out .entry))
+        r (now (made .exit)) (now (out .exit)) ⌝ }
 {
     encode_out(format, level, follow, source, out, made)
 }
@@ -296,9 +256,7 @@ pub extern "C" fn h_scf(
     out: &mut [u8],
     made: &mut u64,
 ) -> u64
-    ensures { λ r. ⌜ r ≡ numberOf (samples undone (length (now (out .entry))) precision (now (source .entry)) .answer) ⌝ }
-    ensures { λ _. ⌜ now (made .exit) ≡ length (samples undone (length (now (out .entry))) precision (now (source .entry)) .bytes) ⌝ }
-    ensures { λ _. ⌜ now (out .exit) ≡ outAfter (samples undone (length (now (out .entry))) precision (now (source .entry))) (now (out .entry)) ⌝ }
+    ensures { λ r. ⌜ SamplesFiltered precision undone (now (source .entry)) (now (out .entry)) r (now (made .exit)) (now (out .exit)) ⌝ }
 {
     samples_out(precision, undone, source, out, made)
 }

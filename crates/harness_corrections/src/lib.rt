@@ -1,7 +1,5 @@
 // The list's correction with what it answers copied out, as `harness` exports it.
-ghost use mathlib.Core.Path.{_≡_};
-ghost use Rattle.answers.specs.Answer.{numberOf, placeOf};
-ghost use Rattle.sff_correction.specs.ListRun.{runList};
+ghost use Rattle.harness_corrections.specs.Outs.{ListCorrected};
 use answers::number_of;
 use answers::place_of;
 use sff_corrector::correct_list;
@@ -14,11 +12,8 @@ pub fn correct_list_out(
     place: &mut u64,
     length_after: &mut u64,
 ) -> u64
-    ensures { λ r. ⌜ r ≡ numberOf (runList (now (buffer .entry)) «file_length» (now (list .entry)) .outcome .answer) ⌝ }
-    ensures { λ _. ⌜ now (count .exit) ≡ runList (now (buffer .entry)) «file_length» (now (list .entry)) .outcome .count ⌝ }
-    ensures { λ _. ⌜ now (place .exit) ≡ placeOf (runList (now (buffer .entry)) «file_length» (now (list .entry)) .outcome .answer) ⌝ }
-    ensures { λ _. ⌜ now («length_after» .exit) ≡ runList (now (buffer .entry)) «file_length» (now (list .entry)) .outcome .length ⌝ }
-    ensures { λ _. ⌜ now (buffer .exit) ≡ runList (now (buffer .entry)) «file_length» (now (list .entry)) .buffer ⌝ }
+    ensures { λ r. ⌜ ListCorrected (now (buffer .entry)) «file_length» (now (list .entry))
+        r (now (count .exit)) (now (place .exit)) (now («length_after» .exit)) (now (buffer .exit)) ⌝ }
 {
     let outcome = correct_list(buffer, file_length as usize, list);
     let answer = outcome.answer;

@@ -1,2 +1,3 @@
 pub mod Clips
 pub mod Fronts
+pub mod Told

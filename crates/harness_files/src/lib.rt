@@ -1,15 +1,11 @@
 // The calls on files with what they answer copied out, as `harness` exports them.
 ghost use mathlib.Core.Path.{_≡_};
-ghost use lib.ListN.{length, getD};
-ghost use Rattle.answers.specs.Answer.{numberOf, placeOf};
-ghost use Rattle.sff_format.specs.HeaderTest.{headerTest, fileFlowCharacters, fileKey};
-ghost use Rattle.sff_format.specs.View.{viewTest};
-ghost use Rattle.sff_format.specs.Step.{fresh, step, found, stop};
-ghost use Rattle.sff_format.specs.Position.{positionTest, signalTest, fileInsert, fileFirst, fileLast};
-ghost use Rattle.sff_format.specs.Writing.{newOutcome, newBuffer, readOf, appendOutcome, appendBuffer};
+ghost use lib.ListN.{getD};
+ghost use Rattle.sff_format.specs.Step.{step, found, stop};
 ghost use Rattle.sff_reader.specs.Forms.{stateOf};
-ghost use Rattle.sff_signal.specs.Signal.{fileSignal};
-ghost use Rattle.harness_files.specs.Outs.{stateFrom, flag, stretchFrom, viewFrom, viewClips, SmallClips, steppedWith, steppedOf, putFront, clipsFrom};
+ghost use Rattle.harness_files.specs.Outs.{flag, stretchFrom, viewFrom, viewClips, SmallClips, steppedOf, putFront, clipsFrom};
+ghost use Rattle.harness_files.specs.Outs.{FlowCharactersCopied, KeyCopied, ViewTested, StateMade, SteppedOn};
+ghost use Rattle.harness_files.specs.Outs.{InsertCopied, SignalSummarised, FileMade, ReadAppended};
 use answers::number_of;
 use answers::place_of;
 use buffers::inner::copy;
@@ -103,10 +99,7 @@ fn step_on(file: &[u8], reader: Reader) -> Stepped
 }
 
 pub fn fresh_out(file: &[u8], at: &mut u64, passed: &mut u64, index_passed: &mut u64) -> u64
-    ensures { λ r. ⌜ r ≡ 0 ⌝ }
-    ensures { λ _. ⌜ now (at .exit) ≡ fresh (now (file .entry)) .place ⌝ }
-    ensures { λ _. ⌜ now (passed .exit) ≡ fresh (now (file .entry)) .passed-reads ⌝ }
-    ensures { λ _. ⌜ now («index_passed» .exit) ≡ flag (fresh (now (file .entry)) .passed-index) ⌝ }
+    ensures { λ r. ⌜ StateMade (now (file .entry)) r (now (at .exit)) (now (passed .exit)) (now («index_passed» .exit)) ⌝ }
 {
     let reader = Reader::fresh(file);
     *at = reader.place as u64;
@@ -128,8 +121,9 @@ pub fn step_out(
     bases: &mut u64,
     clips: &mut u64,
 ) -> u64
-    ensures { λ r. ⌜ steppedWith r (now (place .exit)) (now (at .exit)) (now (passed .exit)) (now («index_passed» .exit)) (now («read_start» .exit)) (now («name_length» .exit)) (now (bases .exit)) (now (clips .exit))
-        ≡ steppedOf (step (now (file .entry)) (stateFrom (now (at .entry)) (now (passed .entry)) (now («index_passed» .entry)))) ⌝ }
+    ensures { λ r. ⌜ SteppedOn (now (file .entry)) (now (at .entry)) (now (passed .entry)) (now («index_passed» .entry))
+        r (now (at .exit)) (now (passed .exit)) (now («index_passed» .exit)) (now (place .exit))
+        (now («read_start» .exit)) (now («name_length» .exit)) (now (bases .exit)) (now (clips .exit)) ⌝ }
 {
     let reader = Reader {
         place: *at as usize,
@@ -172,10 +166,8 @@ fn clips_from(x: u64) -> Clips
 // The characters go to the front of `out` if it has room for them all; if not it stays as it is. `made` is how many
 // they are in either case.
 pub fn flow_characters_out(file: &[u8], out: &mut [u8], place: &mut u64, made: &mut u64) -> u64
-    ensures { λ r. ⌜ r ≡ numberOf (headerTest (now (file .entry))) ⌝ }
-    ensures { λ _. ⌜ now (place .exit) ≡ placeOf (headerTest (now (file .entry))) ⌝ }
-    ensures { λ _. ⌜ now (made .exit) ≡ length (fileFlowCharacters (now (file .entry))) ⌝ }
-    ensures { λ _. ⌜ now (out .exit) ≡ putFront (fileFlowCharacters (now (file .entry))) (now (out .entry)) ⌝ }
+    ensures { λ r. ⌜ FlowCharactersCopied (now (file .entry)) (now (out .entry))
+        r (now (place .exit)) (now (made .exit)) (now (out .exit)) ⌝ }
 {
     let answer = header_test(file);
     let flows = flow_characters(file);
@@ -187,10 +179,7 @@ pub fn flow_characters_out(file: &[u8], out: &mut [u8], place: &mut u64, made: &
 
 // The same of the key.
 pub fn key_out(file: &[u8], out: &mut [u8], place: &mut u64, made: &mut u64) -> u64
-    ensures { λ r. ⌜ r ≡ numberOf (headerTest (now (file .entry))) ⌝ }
-    ensures { λ _. ⌜ now (place .exit) ≡ placeOf (headerTest (now (file .entry))) ⌝ }
-    ensures { λ _. ⌜ now (made .exit) ≡ length (fileKey (now (file .entry))) ⌝ }
-    ensures { λ _. ⌜ now (out .exit) ≡ putFront (fileKey (now (file .entry))) (now (out .entry)) ⌝ }
+    ensures { λ r. ⌜ KeyCopied (now (file .entry)) (now (out .entry)) r (now (place .exit)) (now (made .exit)) (now (out .exit)) ⌝ }
 {
     let answer = header_test(file);
     let characters = key(file);
@@ -238,8 +227,7 @@ fn view_from(numbers: &[u64]) -> ReadView
 
 // The view by its numbers, as `viewFrom` has them.
 pub fn view_test_out(file: &[u8], view: &[u64], place: &mut u64) -> u64
-    ensures { λ r. ⌜ r ≡ numberOf (viewTest (now (file .entry)) (viewFrom (now (view .entry)))) ⌝ }
-    ensures { λ _. ⌜ now (place .exit) ≡ placeOf (viewTest (now (file .entry)) (viewFrom (now (view .entry)))) ⌝ }
+    ensures { λ r. ⌜ ViewTested (now (file .entry)) (now (view .entry)) r (now (place .exit)) ⌝ }
 {
     let answer = view_test(view_from(view), file);
     *place = place_of(answer);
@@ -257,12 +245,8 @@ pub fn insert_out(
     last: &mut u64,
     made: &mut u64,
 ) -> u64
-    ensures { λ r. ⌜ r ≡ numberOf (positionTest (now (file .entry)) position) ⌝ }
-    ensures { λ _. ⌜ now (place .exit) ≡ placeOf (positionTest (now (file .entry)) position) ⌝ }
-    ensures { λ _. ⌜ now (first .exit) ≡ fileFirst (now (file .entry)) position ⌝ }
-    ensures { λ _. ⌜ now (last .exit) ≡ fileLast (now (file .entry)) position ⌝ }
-    ensures { λ _. ⌜ now (made .exit) ≡ length (fileInsert (now (file .entry)) position) ⌝ }
-    ensures { λ _. ⌜ now (out .exit) ≡ putFront (fileInsert (now (file .entry)) position) (now (out .entry)) ⌝ }
+    ensures { λ r. ⌜ InsertCopied (now (file .entry)) position (now (out .entry))
+        r (now (place .exit)) (now (first .exit)) (now (last .exit)) (now (made .exit)) (now (out .exit)) ⌝ }
 {
     let at = position as usize;
     let answer = position_test(file, at);
@@ -284,11 +268,8 @@ pub fn signal_out(
     mean: &mut f64,
     place: &mut u64,
 ) -> u64
-    ensures { λ r. ⌜ r ≡ numberOf (signalTest (now (file .entry)) position) ⌝ }
-    ensures { λ _. ⌜ now (place .exit) ≡ placeOf (signalTest (now (file .entry)) position) ⌝ }
-    ensures { λ _. ⌜ now (strongest .exit) ≡ fileSignal (now (file .entry)) position .strongest ⌝ }
-    ensures { λ _. ⌜ now (weakest .exit) ≡ fileSignal (now (file .entry)) position .weakest ⌝ }
-    ensures { λ _. ⌜ now (mean .exit) ≡ fileSignal (now (file .entry)) position .mean ⌝ }
+    ensures { λ r. ⌜ SignalSummarised (now (file .entry)) position
+        r (now (strongest .exit)) (now (weakest .exit)) (now (mean .exit)) (now (place .exit)) ⌝ }
 {
     let at = position as usize;
     let answer = signal_test(file, at);
@@ -308,10 +289,8 @@ pub fn new_out(
     place: &mut u64,
     length_after: &mut u64,
 ) -> u64
-    ensures { λ r. ⌜ r ≡ numberOf (newOutcome (now (buffer .entry)) (now (flows .entry)) (now (key .entry)) .answer) ⌝ }
-    ensures { λ _. ⌜ now (place .exit) ≡ placeOf (newOutcome (now (buffer .entry)) (now (flows .entry)) (now (key .entry)) .answer) ⌝ }
-    ensures { λ _. ⌜ now («length_after» .exit) ≡ newOutcome (now (buffer .entry)) (now (flows .entry)) (now (key .entry)) .length ⌝ }
-    ensures { λ _. ⌜ now (buffer .exit) ≡ newBuffer (now (buffer .entry)) (now (flows .entry)) (now (key .entry)) ⌝ }
+    ensures { λ r. ⌜ FileMade (now (buffer .entry)) (now (flows .entry)) (now (key .entry))
+        r (now (place .exit)) (now («length_after» .exit)) (now (buffer .exit)) ⌝ }
 {
     let outcome = new_file(buffer, flows, key);
     let answer = outcome.answer;
@@ -332,10 +311,9 @@ pub fn append_out(
     place: &mut u64,
     length_after: &mut u64,
 ) -> u64
-    ensures { λ r. ⌜ r ≡ numberOf (appendOutcome (now (buffer .entry)) «file_length» (readOf (now (name .entry)) (clipsFrom clips) (now (values .entry)) (now (increments .entry)) (now (bases .entry)) (now (qualities .entry))) .answer) ⌝ }
-    ensures { λ _. ⌜ now (place .exit) ≡ placeOf (appendOutcome (now (buffer .entry)) «file_length» (readOf (now (name .entry)) (clipsFrom clips) (now (values .entry)) (now (increments .entry)) (now (bases .entry)) (now (qualities .entry))) .answer) ⌝ }
-    ensures { λ _. ⌜ now («length_after» .exit) ≡ appendOutcome (now (buffer .entry)) «file_length» (readOf (now (name .entry)) (clipsFrom clips) (now (values .entry)) (now (increments .entry)) (now (bases .entry)) (now (qualities .entry))) .length ⌝ }
-    ensures { λ _. ⌜ now (buffer .exit) ≡ appendBuffer (now (buffer .entry)) «file_length» (readOf (now (name .entry)) (clipsFrom clips) (now (values .entry)) (now (increments .entry)) (now (bases .entry)) (now (qualities .entry))) ⌝ }
+    ensures { λ r. ⌜ ReadAppended (now (buffer .entry)) «file_length» (now (name .entry)) clips
+        (now (values .entry)) (now (increments .entry)) (now (bases .entry)) (now (qualities .entry))
+        r (now (place .exit)) (now («length_after» .exit)) (now (buffer .exit)) ⌝ }
 {
     let outcome = append(
         buffer,

@@ -1,1 +1,2 @@
+pub mod Outs
 pub mod Samples

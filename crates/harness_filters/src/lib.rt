@@ -1,10 +1,10 @@
 // The filters' calls with what they answer copied out, as `harness` exports them.
 ghost use mathlib.Core.Path.{_≡_};
 ghost use lib.ListN.{length};
-ghost use Rattle.answers.specs.Answer.{numberOf};
-ghost use Rattle.filter_format.specs.Undo.{filtered, roomOf, firstAfter, secondAfter, undo, undoLayer};
-ghost use Rattle.filter_format.specs.Encode.{encode, outAfter};
+ghost use Rattle.filter_format.specs.Undo.{filtered};
+ghost use Rattle.filter_format.specs.Encode.{outAfter};
 ghost use Rattle.harness_filters.specs.Samples.{samples};
+ghost use Rattle.harness_filters.specs.Outs.{Undone, LayerUndone, Encoded, SamplesFiltered};
 use answers::number_of;
 use filter_encode::encode;
 use filter_format::Filtered;
@@ -14,10 +14,8 @@ use scf_samples::encode_samples;
 use scf_samples::undo_samples;
 
 pub fn undo_out(block: &[u8], first: &mut [u8], second: &mut [u8], made: &mut u64) -> u64
-    ensures { λ r. ⌜ r ≡ numberOf (undo (roomOf (now (first .entry)) (now (second .entry))) (now (block .entry)) .answer) ⌝ }
-    ensures { λ _. ⌜ now (made .exit) ≡ length (undo (roomOf (now (first .entry)) (now (second .entry))) (now (block .entry)) .bytes) ⌝ }
-    ensures { λ _. ⌜ now (first .exit) ≡ firstAfter (undo (roomOf (now (first .entry)) (now (second .entry))) (now (block .entry))) (now (first .entry)) ⌝ }
-    ensures { λ _. ⌜ now (second .exit) ≡ secondAfter (now (second .entry)) ⌝ }
+    ensures { λ r. ⌜ Undone (now (block .entry)) (now (first .entry)) (now (second .entry))
+        r (now (made .exit)) (now (first .exit)) (now (second .exit)) ⌝ }
 {
     let filtered = undo(block, first, second);
     let answer = filtered.answer;
@@ -26,10 +24,8 @@ pub fn undo_out(block: &[u8], first: &mut [u8], second: &mut [u8], made: &mut u6
 }
 
 pub fn undo_layer_out(block: &[u8], first: &mut [u8], second: &mut [u8], made: &mut u64) -> u64
-    ensures { λ r. ⌜ r ≡ numberOf (undoLayer (roomOf (now (first .entry)) (now (second .entry))) (now (block .entry)) .answer) ⌝ }
-    ensures { λ _. ⌜ now (made .exit) ≡ length (undoLayer (roomOf (now (first .entry)) (now (second .entry))) (now (block .entry)) .bytes) ⌝ }
-    ensures { λ _. ⌜ now (first .exit) ≡ firstAfter (undoLayer (roomOf (now (first .entry)) (now (second .entry))) (now (block .entry))) (now (first .entry)) ⌝ }
-    ensures { λ _. ⌜ now (second .exit) ≡ secondAfter (now (second .entry)) ⌝ }
+    ensures { λ r. ⌜ LayerUndone (now (block .entry)) (now (first .entry)) (now (second .entry))
+        r (now (made .exit)) (now (first .exit)) (now (second .exit)) ⌝ }
 {
     let filtered = undo_layer(block, first, second);
     let answer = filtered.answer;
@@ -45,9 +41,8 @@ pub fn encode_out(
     out: &mut [u8],
     made: &mut u64,
 ) -> u64
-    ensures { λ r. ⌜ r ≡ numberOf (encode (length (now (out .entry))) format level (now (follow .entry)) (now (source .entry)) .answer) ⌝ }
-    ensures { λ _. ⌜ now (made .exit) ≡ length (encode (length (now (out .entry))) format level (now (follow .entry)) (now (source .entry)) .bytes) ⌝ }
-    ensures { λ _. ⌜ now (out .exit) ≡ outAfter (encode (length (now (out .entry))) format level (now (follow .entry)) (now (source .entry))) (now (out .entry)) ⌝ }
+    ensures { λ r. ⌜ Encoded format level (now (follow .entry)) (now (source .entry)) (now (out .entry))
+        r (now (made .exit)) (now (out .exit)) ⌝ }
 {
     let filtered = encode(format as usize, level as usize, follow, source, out);
     let answer = filtered.answer;
@@ -63,9 +58,7 @@ pub fn samples_out(
     out: &mut [u8],
     made: &mut u64,
 ) -> u64
-    ensures { λ r. ⌜ r ≡ numberOf (samples undone (length (now (out .entry))) precision (now (source .entry)) .answer) ⌝ }
-    ensures { λ _. ⌜ now (made .exit) ≡ length (samples undone (length (now (out .entry))) precision (now (source .entry)) .bytes) ⌝ }
-    ensures { λ _. ⌜ now (out .exit) ≡ outAfter (samples undone (length (now (out .entry))) precision (now (source .entry))) (now (out .entry)) ⌝ }
+    ensures { λ r. ⌜ SamplesFiltered precision undone (now (source .entry)) (now (out .entry)) r (now (made .exit)) (now (out .exit)) ⌝ }
 {
     let filtered = samples_either(precision as usize, undone, source, out);
     let answer = filtered.answer;

@@ -1,17 +1,13 @@
 // The two calls that a C host makes, with what they answer copied out as numbers: `service` exports them, and `harness`
 // does for the tests.
-ghost use mathlib.Core.Path.{_≡_};
-ghost use Rattle.answers.specs.Answer.{numberOf, placeOf};
-ghost use Rattle.sff_format.specs.FileTest.{fileTest};
-ghost use Rattle.sff_correction.specs.Correct.{correctOutcome, correctBuffer};
+ghost use Rattle.host_calls.specs.Outs.{Tested, Corrected};
 use answers::number_of;
 use answers::place_of;
 use sff::file_test;
 use sff_corrector::correct;
 
 pub fn test_out(file: &[u8], place: &mut u64) -> u64
-    ensures { λ r. ⌜ r ≡ numberOf (fileTest (now (file .entry))) ⌝ }
-    ensures { λ _. ⌜ now (place .exit) ≡ placeOf (fileTest (now (file .entry))) ⌝ }
+    ensures { λ r. ⌜ Tested (now (file .entry)) r (now (place .exit)) ⌝ }
 {
     let tested = file_test(file);
     *place = place_of(tested);
@@ -25,10 +21,8 @@ pub fn correct_out(
     place: &mut u64,
     length_after: &mut u64,
 ) -> u64
-    ensures { λ r. ⌜ r ≡ numberOf (correctOutcome (now (buffer .entry)) «file_length» (now («record» .entry)) .answer) ⌝ }
-    ensures { λ _. ⌜ now (place .exit) ≡ placeOf (correctOutcome (now (buffer .entry)) «file_length» (now («record» .entry)) .answer) ⌝ }
-    ensures { λ _. ⌜ now («length_after» .exit) ≡ correctOutcome (now (buffer .entry)) «file_length» (now («record» .entry)) .length ⌝ }
-    ensures { λ _. ⌜ now (buffer .exit) ≡ correctBuffer (now (buffer .entry)) «file_length» (now («record» .entry)) ⌝ }
+    ensures { λ r. ⌜ Corrected (now (buffer .entry)) «file_length» (now («record» .entry))
+        r (now (place .exit)) (now («length_after» .exit)) (now (buffer .exit)) ⌝ }
 {
     let outcome = correct(buffer, file_length as usize, record);
     let answer = outcome.answer;

@@ -1,17 +1,13 @@
 // Document 01's host: "A C service calls the whole-file test and the single correction on numbers and byte slices."
 // `include/sffstore.h` declares them to C.
-ghost use mathlib.Core.Path.{_≡_};
-ghost use Rattle.answers.specs.Answer.{numberOf, placeOf};
-ghost use Rattle.sff_format.specs.FileTest.{fileTest};
-ghost use Rattle.sff_correction.specs.Correct.{correctOutcome, correctBuffer};
+ghost use Rattle.host_calls.specs.Outs.{Tested, Corrected};
 use host_calls::correct_out;
 use host_calls::test_out;
 
 // The number of the first rule that the bytes break, 0 if they are a file that keeps them all; `place` is where.
 #[no_mangle]
 pub extern "C" fn sffstore_test(file: &[u8], place: &mut u64) -> u64
-    ensures { λ r. ⌜ r ≡ numberOf (fileTest (now (file .entry))) ⌝ }
-    ensures { λ _. ⌜ now (place .exit) ≡ placeOf (fileTest (now (file .entry))) ⌝ }
+    ensures { λ r. ⌜ Tested (now (file .entry)) r (now (place .exit)) ⌝ }
 {
     test_out(file, place)
 }
@@ -26,10 +22,8 @@ pub extern "C" fn sffstore_correct(
     place: &mut u64,
     length_after: &mut u64,
 ) -> u64
-    ensures { λ r. ⌜ r ≡ numberOf (correctOutcome (now (buffer .entry)) «file_length» (now («record» .entry)) .answer) ⌝ }
-    ensures { λ _. ⌜ now (place .exit) ≡ placeOf (correctOutcome (now (buffer .entry)) «file_length» (now («record» .entry)) .answer) ⌝ }
-    ensures { λ _. ⌜ now («length_after» .exit) ≡ correctOutcome (now (buffer .entry)) «file_length» (now («record» .entry)) .length ⌝ }
-    ensures { λ _. ⌜ now (buffer .exit) ≡ correctBuffer (now (buffer .entry)) «file_length» (now («record» .entry)) ⌝ }
+    ensures { λ r. ⌜ Corrected (now (buffer .entry)) «file_length» (now («record» .entry))
+        r (now (place .exit)) (now («length_after» .exit)) (now (buffer .exit)) ⌝ }
 {
     correct_out(buffer, file_length, record, place, length_after)
 }

@@ -1,17 +1,10 @@
-use mathlib.Core.Path.{ap, _∙_}
-use Rattle.answers.specs.Answer.{numberOf, placeOf}
+-- Number, count, place and length are those of what the list's correction answered, and the buffer is as it left it.
 use borrow.Author.Needs.{needs}
 use Rattle.harness_corrections.proofs.correct_list_out.Statement.{statement}
 use Rattle.harness_corrections.proofs.correct_list_out.Tie as tie
 
 returns : tie.Need-returns
-returns c =
-    let d = c .before in
-    let w = d .before .before .before .correct-list .ensures in
-    let e = w .0 in (
-      c .number-of .ensures ∙ ap (λ o. numberOf (o .answer)) e,
-      (ap (λ o. o .count) e, (d .place-of .ensures ∙ ap (λ o. placeOf (o .answer)) e, (ap (λ o. o .length) e, w .1))),
-    )
+returns c = (cc, cc, cc, cc, cc)
 
 pub correct-list-out-spec : {M : Type 1} → statement M
 correct-list-out-spec =

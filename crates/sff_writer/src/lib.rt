@@ -5,7 +5,7 @@ ghost use Prim.Native.Nat.{_<_};
 ghost use lib.ListN.{length};
 ghost use Rattle.answers.specs.Answer.{own};
 ghost use Rattle.sff_format.specs.ReadTest.{clipTest};
-ghost use Rattle.sff_format.specs.Writing.{newTest, newOutcome, newBuffer, readOf, badCounts, givenTest, openTest, appendTest, ReadAppended};
+ghost use Rattle.sff_format.specs.Writing.{newTest, newOutcome, newBuffer, readOf, badCounts, givenTest, openTest, appendTest, AppendLeaves};
 use answers::Answer;
 use buffers::inner::put32;
 use octets::ByteTest;
@@ -199,7 +199,7 @@ pub fn append(
     bases: &[u8],
     qualities: &[u8],
 ) -> Outcome
-    ensures { λ r. ⌜ ReadAppended (now (buffer .entry)) «file_length»
+    ensures { λ r. ⌜ AppendLeaves (now (buffer .entry)) «file_length»
         (readOf (now (name .entry)) clips (now (values .entry)) (now (increments .entry)) (now (bases .entry)) (now (qualities .entry)))
         r (now (buffer .exit)) ⌝ }
 {

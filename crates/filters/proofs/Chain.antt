@@ -31,7 +31,8 @@ module _ (room : ℕ) (b : List ℕ) {f : Filter} (is : f ≡ filterAt b) where
   layer-tested e = rw (← is) e
 
   pub block-tested : (left : ℕ) {x : Answer}
-      → x ≡ (when (eqb (length b) 0) 40 0 then when (not (isRaw f) && not (isFilter f)) 41 0 then when (isFilter f && eqb left 0) 44 0 then contentsTest f room b)
+      → x ≡ (when (eqb (length b) 0) 40 0 then when (not (isRaw f) && not (isFilter f)) 41 0
+      then when (isFilter f && eqb left 0) 44 0 then contentsTest f room b)
       → x ≡ blockTest left room b
   unfolding blockTest
   block-tested left e = rw (← is) e

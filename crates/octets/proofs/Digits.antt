@@ -76,7 +76,8 @@ number-one at l h = rw (part-suc at 0 l h) (omega arith)
 pub number-two : (at : ℕ) (l : List ℕ) → at + 2 ≤ length l → number 2 at l ≡ getD l at 0 * 256 + getD l (at + 1) 0
 number-two at l h = omega (arith, number-split at 1 1 l h, number-one at l (omega arith), number-one (at + 1) l (omega arith))
 
-pub number-four : (at : ℕ) (l : List ℕ) → at + 4 ≤ length l → number 4 at l ≡ getD l at 0 * 16777216 + getD l (at + 1) 0 * 65536 + getD l (at + 2) 0 * 256 + getD l (at + 3) 0
+pub number-four : (at : ℕ) (l : List ℕ) → at + 4 ≤ length l
+    → number 4 at l ≡ getD l at 0 * 16777216 + getD l (at + 1) 0 * 65536 + getD l (at + 2) 0 * 256 + getD l (at + 3) 0
 number-four at l h =
     let e : at + 2 + 1 ≡ at + 3 = omega arith in
     omega (arith, number-split at 2 2 l h, number-two at l (omega arith), rw e at (number-two (at + 2) l (omega arith)))
@@ -102,13 +103,15 @@ pub put-two : (l : List ℕ) (at v : ℕ) → at + 2 ≤ length l → set (set l
 unfolding bytesOf
 put-two l at v h = simp (div-one, add-one) (put-sets (v / 256 % 256 ∷ v % 256 ∷ []) l at h)
 
-pub put-four : (l : List ℕ) (at v : ℕ) → at + 4 ≤ length l → set (set (set (set l at (v / 16777216 % 256)) (at + 1) (v / 65536 % 256)) (at + 2) (v / 256 % 256)) (at + 3) (v % 256) ≡ putAt at (bytesOf 4 v) l
+pub put-four : (l : List ℕ) (at v : ℕ) → at + 4 ≤ length l
+    → set (set (set (set l at (v / 16777216 % 256)) (at + 1) (v / 65536 % 256)) (at + 2) (v / 256 % 256)) (at + 3) (v % 256) ≡ putAt at (bytesOf 4 v) l
 unfolding bytesOf
 put-four l at v h =
     simp (div-one, add-one, add-two, add-three) (put-sets (v / 16777216 % 256 ∷ v / 65536 % 256 ∷ v / 256 % 256 ∷ v % 256 ∷ []) l at h)
 
 -- the bytes of v that are put in a high and a low part
-pub put-halves : (j k at v : ℕ) (l : List ℕ) → at + j ≤ length l → putAt (at + j) (bytesOf k (v % 256 ^ k)) (putAt at (bytesOf j (v / 256 ^ k)) l) ≡ putAt at (bytesOf (j + k) v) l
+pub put-halves : (j k at v : ℕ) (l : List ℕ) → at + j ≤ length l
+    → putAt (at + j) (bytesOf k (v % 256 ^ k)) (putAt at (bytesOf j (v / 256 ^ k)) l) ≡ putAt at (bytesOf (j + k) v) l
 put-halves j k at v l h =
     let xs : List ℕ = bytesOf j (v / 256 ^ k) in
     let ys : List ℕ = bytesOf k (v % 256 ^ k) in

@@ -9,7 +9,9 @@ use native.Mathlib.Numerals.{add-one}
 use native.Mathlib.Omega.{arith}
 use borrow.Author.Tests.{le-leb, lt-leb}
 use lib.ListN.{length, take, drop, set, getD, length-append, length-take, length-drop, take-append-drop, List·getD-append}
-use lib.Seq.{sets, sets-eq, drop-cons, length-take-le, take-suc, set-at, append-snoc, getD-append-add, getD-take, getD-drop, take-at, drop-at, drop-drop, take-take, take-add, take-append-seam, drop-append-seam, drop-append-add, take-append-le, drop-append-le}
+use lib.Seq.{sets, sets-eq, set-at, append-snoc, getD-append-add, getD-take, getD-drop}
+use lib.Seq.{length-take-le, take-suc, take-at, take-take, take-add, take-append-seam, take-append-le}
+use lib.Seq.{drop-cons, drop-at, drop-drop, drop-append-seam, drop-append-add, drop-append-le}
 use Rattle.octets.specs.Parts.{part, wholePart, putAt}
 
 -- the first of the elements of a part, and the rest
@@ -155,7 +157,8 @@ part-before p n at xs l h k =
     let len : length (take at l) ≡ at = length-take-le at l k in
     let one : p ≤ length (take at l) = rw len (omega arith) in
     let two : n ≤ length (drop p (take at l)) = simp (length-drop, len) (omega arith) in
-    rw (append-assoc, drop-append-le p (take at l) _ one, take-append-le n (drop p (take at l)) _ two, drop-take p at l (omega arith) k, take-take n (at - p) (drop p l) (omega arith))
+    let back = drop-take p at l (omega arith) k in
+    rw (append-assoc, drop-append-le p (take at l) _ one, take-append-le n (drop p (take at l)) _ two, back, take-take n (at - p) (drop p l) (omega arith))
 
 pub part-after : (p n at : ℕ) (xs l : List ℕ) → at + length xs ≤ p → at + length xs ≤ length l → part p n (putAt at xs l) ≡ part p n l
 unfolding putAt
@@ -164,7 +167,11 @@ part-after p n at xs l h k =
     let e : p ≡ m + (p - m) = omega arith in
     let len : length (take at l ++ xs) ≡ m = simp (length-append, length-take) (omega arith) in
     let at-p : drop p (take at l ++ xs ++ drop m l) ≡ drop p l =
-    ap (λ (i : ℕ). drop i (take at l ++ xs ++ drop m l)) e ∙ sym (drop-drop (p - m) m _) ∙ ap (λ (r : List ℕ). drop (p - m) r) (drop-at (take at l ++ xs) (drop m l) m len) ∙ drop-drop (p - m) m l ∙ ap (λ (i : ℕ). drop i l) (sym e) in
+    ap (λ (i : ℕ). drop i (take at l ++ xs ++ drop m l)) e
+    ∙ sym (drop-drop (p - m) m _)
+    ∙ ap (λ (r : List ℕ). drop (p - m) r) (drop-at (take at l ++ xs) (drop m l) m len)
+    ∙ drop-drop (p - m) m l
+    ∙ ap (λ (i : ℕ). drop i l) (sym e) in
     rw at-p
 
 -- a part that lies in the list, and one that does not

@@ -10,7 +10,8 @@ use borrow.Author.Needs.{needs}
 use lib.ListN.{replicate, length-replicate, getD-replicate, length, take, drop, set, getD, length-set, length-drop, take-append-drop, drop-of-length-le}
 use lib.Seq.{take-suc, drop-cons, take-all, take-add, drop-drop, length-take-le}
 use Rattle.octets.specs.Parts.{putAt, part}
-use Rattle.octets.proofs.Lists.{put-nil, put-snoc, put-cons, put-next, put-before, length-put, getD-before, getD-after, length-part, getD-part, part-in, part-put, part-before, part-after}
+use Rattle.octets.proofs.Lists.{put-nil, put-snoc, put-cons, put-next, put-before, length-put, getD-before, getD-after}
+use Rattle.octets.proofs.Lists.{length-part, getD-part, part-in, part-put, part-before, part-after}
 
 -- s is s₀ with the first j elements of xs put
 pub record Up (at n : ℕ) (xs s₀ s : List ℕ) (j : ℕ) : Type 0 where
@@ -28,7 +29,8 @@ pub record Down (at n : ℕ) (xs s₀ s : List ℕ) (j : ℕ) : Type 0 where
   pub same : length s ≡ length s₀
   pub is : s ≡ putAt (at + j) (drop j xs) s₀
 
-down-step : (at k : ℕ) (xs s₀ : List ℕ) → at + k < length s₀ → k < length xs → set (putAt (at + (k + 1)) (drop (k + 1) xs) s₀) (at + k) (getD xs k 0) ≡ putAt (at + k) (drop k xs) s₀
+down-step : (at k : ℕ) (xs s₀ : List ℕ) → at + k < length s₀ → k < length xs
+    → set (putAt (at + (k + 1)) (drop (k + 1) xs) s₀) (at + k) (getD xs k 0) ≡ putAt (at + k) (drop k xs) s₀
 down-step at k xs s₀ h i = rw (drop-cons xs k 0, ← add-assoc at k 1, add-one k) (put-cons (at + k) (drop (suc k) xs) s₀ (getD xs k 0) h)
 
 module _ (at n : ℕ) (xs s₀ : List ℕ) where
@@ -86,19 +88,23 @@ same-value n i v h = sym (getD-replicate n i v 0 h)
 pub part-value : (from n : ℕ) (l : List ℕ) (i : ℕ) → i < n → getD l (from + i) 0 ≡ getD (part from n l) i 0
 part-value from n l i h = sym (getD-part from n l i h)
 
-pub up-value : {at from n : ℕ} {s₀ s : List ℕ} {j : ℕ} → Up at n (part from n s₀) s₀ s j → at ≤ from → j < n → getD s (from + j) 0 ≡ getD (part from n s₀) j 0
+pub up-value : {at from n : ℕ} {s₀ s : List ℕ} {j : ℕ} → Up at n (part from n s₀) s₀ s j → at ≤ from → j < n
+    → getD s (from + j) 0 ≡ getD (part from n s₀) j 0
 up-value {at} {from} {n} {s₀} {s} {j} u h k = up-rest u (from + j) (omega arith) ∙ part-value from n s₀ j k
 
-pub down-value : {at from n : ℕ} {s₀ s : List ℕ} {j : ℕ} → Down at n (part from n s₀) s₀ s j → from ≤ at → 0 < j → getD s (from + (j - 1)) 0 ≡ getD (part from n s₀) (j - 1) 0
+pub down-value : {at from n : ℕ} {s₀ s : List ℕ} {j : ℕ} → Down at n (part from n s₀) s₀ s j → from ≤ at → 0 < j
+    → getD s (from + (j - 1)) 0 ≡ getD (part from n s₀) (j - 1) 0
 down-value {at} {from} {n} {s₀} {s} {j} u h k = down-rest u (from + (j - 1)) (omega arith) ∙ part-value from n s₀ (j - 1) (omega arith)
 
 -- k elements moved by way of a list of as many, which holds them in between
-pub moved-through : (from to k : ℕ) (b s : List ℕ) {held t : List ℕ} → length b ≡ k → from + k ≤ length s → held ≡ putAt 0 (part from k s) b → t ≡ putAt to (part 0 k held) s → t ≡ putAt to (part from k s) s
+pub moved-through : (from to k : ℕ) (b s : List ℕ) {held t : List ℕ} → length b ≡ k → from + k ≤ length s
+    → held ≡ putAt 0 (part from k s) b → t ≡ putAt to (part 0 k held) s → t ≡ putAt to (part from k s) s
 moved-through from to k b s e h i w = rw (w, i, part-put 0 k (part from k s) b (length-part from k s h) (omega arith))
 
 -- A block of k elements moved at once, of a move whose two stretches may overlap: what it reads is still as it was.
 module _ {at from n : ℕ} {s₀ s : List ℕ} {j : ℕ} where
-  pub up-block : Up at n (part from n s₀) s₀ s j → at ≤ from → from + n ≤ length s₀ → (k : ℕ) → j + k ≤ n → {t : List ℕ} → t ≡ putAt (at + j) (part (from + j) k s) s → Up at n (part from n s₀) s₀ t (j + k)
+  pub up-block : Up at n (part from n s₀) s₀ s j → at ≤ from → from + n ≤ length s₀ → (k : ℕ) → j + k ≤ n → {t : List ℕ}
+      → t ≡ putAt (at + j) (part (from + j) k s) s → Up at n (part from n s₀) s₀ t (j + k)
   up-block u h i k l {t} w =
       let xs : List ℕ = part from n s₀ in
       let len : length (take j xs) ≡ j = length-take-le j xs (omega arith) in
@@ -106,13 +112,16 @@ module _ {at from n : ℕ} {s₀ s : List ℕ} {j : ℕ} where
       rw (u .is) (part-after (from + j) k at (take j xs) s₀ (rw len (omega arith)) (rw len (omega arith)) ∙ sym (part-in j k from n s₀ l i)) in
       let put : t ≡ putAt at (take (j + k) xs) s₀ =
       w ∙ rw (read, take-add) (rw (u .is) (put-next at j (take j xs) (part j k xs) s₀ len (omega arith))) in
-      record { len = u .len; fits = u .fits; low = l; same = rw put (length-put at (take (j + k) xs) s₀ (rw (length-take-le (j + k) xs (omega arith)) (omega arith))); is = put }
+      let room : at + length (take (j + k) xs) ≤ length s₀ = rw (length-take-le (j + k) xs (omega arith)) (omega arith) in
+      record { len = u .len; fits = u .fits; low = l; same = rw put (length-put at (take (j + k) xs) s₀ room); is = put }
 
   -- the rest of the move as one block
-  pub up-last : Up at n (part from n s₀) s₀ s j → at ≤ from → from + n ≤ length s₀ → {t : List ℕ} → t ≡ putAt (at + j) (part (from + j) (n - j) s) s → t ≡ putAt at (part from n s₀) s₀
+  pub up-last : Up at n (part from n s₀) s₀ s j → at ≤ from → from + n ≤ length s₀ → {t : List ℕ}
+      → t ≡ putAt (at + j) (part (from + j) (n - j) s) s → t ≡ putAt at (part from n s₀) s₀
   up-last u h i w = up-done (up-block u h i (n - j) (omega arith) w) (omega arith)
 
-  pub down-block : Down at n (part from n s₀) s₀ s j → from ≤ at → (k : ℕ) → k ≤ j → {t : List ℕ} → t ≡ putAt (at + (j - k)) (part (from + (j - k)) k s) s → Down at n (part from n s₀) s₀ t (j - k)
+  pub down-block : Down at n (part from n s₀) s₀ s j → from ≤ at → (k : ℕ) → k ≤ j → {t : List ℕ}
+      → t ≡ putAt (at + (j - k)) (part (from + (j - k)) k s) s → Down at n (part from n s₀) s₀ t (j - k)
   down-block u h k l {t} w =
       let xs : List ℕ = part from n s₀ in
       let m : ℕ = j - k in
@@ -138,4 +147,5 @@ module _ {at from n : ℕ} {s₀ s : List ℕ} {j : ℕ} where
       down-done (down-block u h j (omega arith) (rw (none, add-zero at, add-zero from) w)) (omega arith)
 
 -- what `search` needs for the every need of a loop that moves
-pub ruleset moves = (up-start, up-more, up-done, down-start, down-more, down-done, same-value, part-value, up-value, down-value, length-replicate, length-part, needs)
+pub ruleset moves =
+    (up-start, up-more, up-done, down-start, down-more, down-done, same-value, part-value, up-value, down-value, length-replicate, length-part, needs)

@@ -56,15 +56,21 @@ alike-start at n from s t h k =
     record { first-fits = h; second-fits = k; low = omega arith; is = rw (a, f, m) }
 
 module _ {at n from : ℕ} {s t : List ℕ} {j : ℕ} (l : Alike at n from s t j) where
-  turn : j < n → same (part at n s) (part from n t) ≡ (eqb (getD s (at + j) 0) (getD t (from + j) 0) && same (part (at + j + 1) (n - (j + 1)) s) (part (from + j + 1) (n - (j + 1)) t))
+  turn : j < n
+      → same (part at n s) (part from n t)
+      ≡ (eqb (getD s (at + j) 0) (getD t (from + j) 0) && same (part (at + j + 1) (n - (j + 1)) s) (part (from + j + 1) (n - (j + 1)) t))
   unfolding same
   turn h =
       let m : n - j ≡ suc (n - (j + 1)) = omega arith in
       l .is ∙ rw (m, part-suc (at + j) (n - (j + 1)) s (omega arith), part-suc (from + j) (n - (j + 1)) t (omega arith))
 
   pub alike-more : j < n → getD s (at + j) 0 ≡ getD t (from + j) 0 → Alike at n from s t (j + 1)
-  alike-more h e =
-      record { first-fits = l .first-fits; second-fits = l .second-fits; low = omega arith; is = turn h ∙ rw (eq-eqb _ _ e, add-assoc at j 1, add-assoc from j 1) }
+  alike-more h e = record {
+    first-fits = l .first-fits;
+    second-fits = l .second-fits;
+    low = omega arith;
+    is = turn h ∙ rw (eq-eqb _ _ e, add-assoc at j 1, add-assoc from j 1);
+  }
 
   pub alike-not : j < n → (getD s (at + j) 0 ≡ getD t (from + j) 0 → ⊥) → false ≡ same (part at n s) (part from n t)
   alike-not h e = sym (turn h ∙ rw (ne-eqb _ _ e))

@@ -35,20 +35,23 @@ zeros-behind n s h =
     rw (l, k, drop-of-length-le s (let e : length s ≤ n + (length s - n) = omega arith in e), append-nil (take n s ++ replicate (length s - n) 0))
 
 -- a write within the file
-pub settled-put : (at : ℕ) (xs new : List ℕ) (m : ℕ) (b : List ℕ) → at + length xs ≤ length new → putAt at xs (settled new m b) ≡ settled (putAt at xs new) m b
+pub settled-put : (at : ℕ) (xs new : List ℕ) (m : ℕ) (b : List ℕ) → at + length xs ≤ length new
+    → putAt at xs (settled new m b) ≡ settled (putAt at xs new) m b
 unfolding settled filled
 settled-put at xs new m b h = rw (append-assoc, put-left at xs new _ h, length-put at xs new h, append-assoc)
 
 -- a splice: xs in the place of n bytes
 pub splice-settled : (at n end : ℕ) (xs b : List ℕ) → at + n ≤ end → end ≤ length b
-    → spliced at n end xs b ≡ settled (take at (take end b) ++ (xs ++ drop (at + n) (take end b))) (max end (length (take at (take end b) ++ (xs ++ drop (at + n) (take end b))))) b
+    → let file : List ℕ = take at (take end b) ++ (xs ++ drop (at + n) (take end b)) in
+    spliced at n end xs b ≡ settled file (max end (length file)) b
 unfolding settled filled spliced putAt
 splice-settled at n end xs b h k =
     let rest : List ℕ = part (at + n) (end - (at + n)) b in
     let front : length (take at b) ≡ at = length-take-le at b (omega arith) in
     let back : length rest ≡ end - (at + n) = length-part (at + n) (end - (at + n)) b (omega arith) in
     let l : length (take at b ++ (xs ++ rest)) ≡ at + (length xs + (end - (at + n))) = simp (length-append, front, back) in
-    let w : length (xs ++ (rest ++ replicate (n - length xs) 0)) ≡ length xs + (end - (at + n) + (n - length xs)) = simp (length-append, length-replicate, back) in
+    let w : length (xs ++ (rest ++ replicate (n - length xs) 0)) ≡ length xs + (end - (at + n) + (n - length xs)) =
+    simp (length-append, length-replicate, back) in
     let z : max end (at + (length xs + (end - (at + n)))) - (at + (length xs + (end - (at + n)))) ≡ n - length xs = omega arith in
     let d : at + (length xs + (end - (at + n) + (n - length xs))) ≡ max end (at + (length xs + (end - (at + n)))) = omega arith in
     rw (take-take at end b (omega arith), drop-take (at + n) end b h k, l, z, w, d) (simp append-assoc)

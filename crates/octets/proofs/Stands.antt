@@ -39,7 +39,8 @@ stands-both p q xs ys b e s t = rw (length-append, part-two p (length xs) (lengt
 
 pub stands-fits : (p : ℕ) (xs b : List ℕ) → Stands p xs b → p ≤ length b → p + length xs ≤ length b
 stands-fits p xs b s h =
-    let e : min (length xs) (length b - p) ≡ length xs = sym (length-take (length xs) (drop p b) ∙ ap (λ (n : ℕ). min (length xs) n) (length-drop p b)) ∙ ap length s in
+    let k = length-take (length xs) (drop p b) ∙ ap (λ (n : ℕ). min (length xs) n) (length-drop p b) in
+    let e : min (length xs) (length b - p) ≡ length xs = sym k ∙ ap length s in
     omega arith
 
 pub stands-left : (p : ℕ) (xs ys b : List ℕ) → p ≤ length b → Stands p (xs ++ ys) b → Stands p xs b
@@ -96,12 +97,14 @@ pub length-filled : (n : ℕ) (xs : List ℕ) → length xs ≤ n → length (fi
 unfolding filled
 length-filled n xs h = simp (length-append, length-replicate) (omega arith)
 
-pub filled-stands : (p q n m : ℕ) (xs b : List ℕ) → q ≡ p + length xs → m ≡ n - length xs → q + m ≤ length b → Stands p xs b → Every isZero (part q m b) → Stands p (filled n xs) b
+pub filled-stands : (p q n m : ℕ) (xs b : List ℕ) → q ≡ p + length xs → m ≡ n - length xs → q + m ≤ length b → Stands p xs b
+    → Every isZero (part q m b) → Stands p (filled n xs) b
 unfolding filled
 filled-stands p q n m xs b e f h s z =
     stands-both p q xs (replicate (n - length xs) 0) b e s (rw (← f) (zeros-stand q m b h z))
 
-pub stands-filled : (p q n m : ℕ) (xs b : List ℕ) → q ≡ p + length xs → m ≡ n - length xs → p ≤ length b → Stands p (filled n xs) b → Stands p xs b × Every isZero (part q m b)
+pub stands-filled : (p q n m : ℕ) (xs b : List ℕ) → q ≡ p + length xs → m ≡ n - length xs → p ≤ length b → Stands p (filled n xs) b
+    → Stands p xs b × Every isZero (part q m b)
 unfolding filled
 stands-filled p q n m xs b e f h s = (
   stands-left p xs (replicate (n - length xs) 0) b h s,
@@ -110,7 +113,8 @@ stands-filled p q n m xs b e f h s = (
 
 -- a name in a field of `wide` bytes at `at`, zeros after it: any front of the field that holds the name is the name and
 -- zeros
-pub field-filled : (at n wide w : ℕ) (r : List ℕ) → at + wide ≤ length r → fails isZero (part (at + n) (wide - n) r) ≡ false → n ≤ w → w ≤ wide → part at w r ≡ filled w (part at n r)
+pub field-filled : (at n wide w : ℕ) (r : List ℕ) → at + wide ≤ length r → fails isZero (part (at + n) (wide - n) r) ≡ false → n ≤ w
+    → w ≤ wide → part at w r ≡ filled w (part at n r)
 field-filled at n wide w r h e i j =
     let l : length (part at n r) ≡ n = length-part at n r (omega arith) in
     let s : wide - n ≡ w - n + (wide - w) = omega arith in
@@ -165,13 +169,15 @@ fields-append [] ys = refl
 fields-append (x ∷ xs) ys = rw (fields-append xs ys, append-assoc)
 
 -- another number in one of them is its bytes put where it stands
-pub field-put : (us ws : List (ℕ × ℕ)) (w x y : ℕ) (tail : List ℕ) → fields (us ++ ((w, y) ∷ ws)) ++ tail ≡ putAt (width us) (bytesOf w y) (fields (us ++ ((w, x) ∷ ws)) ++ tail)
+pub field-put : (us ws : List (ℕ × ℕ)) (w x y : ℕ) (tail : List ℕ)
+    → fields (us ++ ((w, y) ∷ ws)) ++ tail ≡ putAt (width us) (bytesOf w y) (fields (us ++ ((w, x) ∷ ws)) ++ tail)
 unfolding fields
 field-put us ws w x y tail =
     let put = put-over (fields us) (bytesOf w y) (bytesOf w x) (fields ws ++ tail) (rw (length-bytesOf, length-bytesOf)) in
     rw (fields-append us ((w, y) ∷ ws), fields-append us ((w, x) ∷ ws), ← (length-fields us)) (simp append-assoc (sym put))
 
-pub fields-stand : (b : List ℕ) → Bytes b → (xs : List (ℕ × ℕ)) (p k : ℕ) → p + k + width xs ≤ length b → Numbers b p k xs → Stands (p + k) (fields xs) b
+pub fields-stand : (b : List ℕ) → Bytes b → (xs : List (ℕ × ℕ)) (p k : ℕ) → p + k + width xs ≤ length b → Numbers b p k xs
+    → Stands (p + k) (fields xs) b
 unfolding fields
 fields-stand b y [] p k h n = refl
 fields-stand b y (x ∷ xs) p k h n =
@@ -212,7 +218,8 @@ units-stand w b y (suc n) p h =
     stands-both p (p + w) (bytesOf w (number w p b)) (unitBytes w (unitsAt w n (p + w) b)) b (rw length-bytesOf)
     (number-stands w p b y (more w n p (length b) h .0)) (units-stand w b y n (p + w) (more w n p (length b) h .1))
 
-pub stand-units : (w : ℕ) (b : List ℕ) (vs : List ℕ) (p : ℕ) → p ≤ length b → Below (256 ^ w) vs → Stands p (unitBytes w vs) b → unitsAt w (length vs) p b ≡ vs
+pub stand-units : (w : ℕ) (b : List ℕ) (vs : List ℕ) (p : ℕ) → p ≤ length b → Below (256 ^ w) vs → Stands p (unitBytes w vs) b
+    → unitsAt w (length vs) p b ≡ vs
 unfolding unitBytes unitsAt
 stand-units w b [] p h f s = refl
 stand-units w b (v ∷ vs) p h f s =

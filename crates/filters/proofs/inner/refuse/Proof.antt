@@ -3,5 +3,8 @@ use borrow.Author.Needs.{needs}
 use Rattle.filters.proofs.inner.refuse.Statement.{statement}
 use Rattle.filters.proofs.inner.refuse.Tie as tie
 
+returns : tie.Need-returns
+returns c = search needs
+
 pub refuse-spec : {M : Type 1} → statement M
-refuse-spec = tie.close (tie.spec (λ c κs. search needs) (λ c κs. search needs) (λ c. search needs) (λ c. search needs) (λ c. search needs))
+refuse-spec = tie.close (tie.spec (λ c κs. search needs) (λ c κs. search needs) (λ c. search needs) (λ c. search needs) returns)

@@ -20,7 +20,8 @@ module _ (flows : ℕ) (key : List ℕ) (reads : ℕ) where
 
 module _ (position : ℕ) (name : List ℕ) (bases first last : ℕ) (insert : List ℕ) where
   pub read-line-length : length (readLine position name bases first last insert)
-      ≡ length (decimal position) + length (orDash name) + (length (decimal bases) + length (decimal first) + length (decimal last)) + length (orDash insert) + 6
+      ≡ length (decimal position) + length (orDash name)
+      + (length (decimal bases) + length (decimal first) + length (decimal last)) + length (orDash insert) + 6
   unfolding readLine extent numberField wordField
   read-line-length = simp length-append (omega arith)
 

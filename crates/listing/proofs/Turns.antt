@@ -30,7 +30,8 @@ unfolding viewLine
 view-line b position v n f l i = rw (n, f, l, i)
 
 -- the line of a view is the line of the read that it is of
-line-viewed : (characters b : List ℕ) (p i : ℕ) → Bytes b → readTest characters b p ≡ Accepted → viewLine b i (viewAt (length characters) b p) ≡ lineOf i (parseRead (length characters) b p)
+line-viewed : (characters b : List ℕ) (p i : ℕ) → Bytes b → readTest characters b p ≡ Accepted
+    → viewLine b i (viewAt (length characters) b p) ≡ lineOf i (parseRead (length characters) b p)
 unfolding viewLine
 line-viewed characters b p i y e = rw (
   insert-viewed characters b p y e,
@@ -46,8 +47,8 @@ pub record Listing (b : List ℕ) (i : ℕ) (boundary : Boundary) (P : List ℕ 
   pub walk : Walk b i boundary
   pub coming : P (linesFrom i (drop i (parse b .reads)))
 
-pub listing-start : (b : List ℕ) {boundary : Boundary} (P : List ℕ → Type 0) → Bytes b → fileTest b ≡ Accepted → boundary ≡ firstBoundary b → P (linesFrom 0 (parse b .reads))
-    → Listing b 0 boundary P
+pub listing-start : (b : List ℕ) {boundary : Boundary} (P : List ℕ → Type 0) → Bytes b → fileTest b ≡ Accepted → boundary ≡ firstBoundary b
+    → P (linesFrom 0 (parse b .reads)) → Listing b 0 boundary P
 listing-start b P y e f k = record { bytes = y; walk = rw f (walk-start b e); coming = k }
 
 module _ {b : List ℕ} {i : ℕ} {boundary : Boundary} {P : List ℕ → Type 0} (g : Listing b i boundary P) where

@@ -54,7 +54,8 @@ room-one {k} {n} h f r = let e = one-length k n h f in record { fits = omega (ar
 pub room-more : {k n at : ℕ} {l : List ℕ} → (k ≡ 0 → ⊥) → 10 ≤ n → Room at (decimalOf k n) l → Room at (decimalOf (k - 1) (n / 10)) l
 room-more {k} {n} h f r = let e = more-length k n h f in record { fits = omega (arith, e) }
 
-pub room-last : {k n at x : ℕ} {l l′ : List ℕ} {p : ℕ} → Wrote at (decimalOf (k - 1) (n / 10)) l l′ p → (k ≡ 0 → ⊥) → 10 ≤ n → Room at (decimalOf k n) l → Room p (x ∷ []) l′
+pub room-last : {k n at x : ℕ} {l l′ : List ℕ} {p : ℕ}
+    → Wrote at (decimalOf (k - 1) (n / 10)) l l′ p → (k ≡ 0 → ⊥) → 10 ≤ n → Room at (decimalOf k n) l → Room p (x ∷ []) l′
 room-last {k} {n} {at} {x} {l} w h f r =
     let e = more-length k n h f in
     let b = wrote-length at (decimalOf (k - 1) (n / 10)) l w (omega (arith, e)) in

@@ -67,7 +67,8 @@ module _ (xs l : List ℕ) where
 
   -- the length counts bytes of the buffer: the third promise of an entry point, which `&text[..n]` asks
   pub counted : {l′ : List ℕ} {r : Written} → Put xs l l′ r
-      → (r ≡ written (fitted (length l) xs)) × ((l′ ≡ putAt 0 (fitted (length l) xs .text) l) × ((r .length ≤ length l′) × (r .length ≡ length (take (r .length) l′))))
+      → (r ≡ written (fitted (length l) xs)) × ((l′ ≡ putAt 0 (fitted (length l) xs .text) l)
+      × ((r .length ≤ length l′) × (r .length ≡ length (take (r .length) l′))))
   counted {l′} {r} p =
       let n = ap (λ (w : Written). w .length) (p .0) in
       let e = ap length (p .1) ∙ length-put 0 (fitted (length l) xs .text) l (omega (arith, fitted-short)) in

@@ -30,7 +30,8 @@ pub wrote-bytes : (at : ℕ) (xs l l′ : List ℕ) → l′ ≡ putAt at (part 
 wrote-bytes at xs l l′ e = (refl, rw take-length at e)
 
 -- a piece after a piece
-pub wrote-then : (at : ℕ) (xs ys l : List ℕ) {l′ l″ : List ℕ} {p q : ℕ} → Wrote at xs l l′ p → Wrote p ys l′ l″ q → at + length xs ≤ length l → Wrote at (xs ++ ys) l l″ q
+pub wrote-then : (at : ℕ) (xs ys l : List ℕ) {l′ l″ : List ℕ} {p q : ℕ}
+    → Wrote at xs l l′ p → Wrote p ys l′ l″ q → at + length xs ≤ length l → Wrote at (xs ++ ys) l l″ q
 wrote-then at xs ys l a b h =
     let e = a .0 in
     let f = b .0 in
@@ -100,7 +101,8 @@ module _ {at : ℕ} (a b c d : List ℕ) {l : List ℕ} (r : Room at (a ++ b ++ 
         pub four-put : {l⁗ : List ℕ} → l⁗ ≡ putAt s d l‴ → l⁗ ≡ putAt at (a ++ b ++ c ++ d) l
         four-put h = two-put (a ++ b ++ c) d r (three-next a b c (two-1 (a ++ b ++ c) d r) n e m f o) (three-put a b c (two-1 (a ++ b ++ c) d r) n e m f g) h
 
-  pub four-all : {p q s t : ℕ} {l′ l″ l‴ l⁗ : List ℕ} → Wrote at a l l′ p → Wrote p b l′ l″ q → Wrote q c l″ l‴ s → Wrote s d l‴ l⁗ t → Wrote at (a ++ b ++ c ++ d) l l⁗ t
+  pub four-all : {p q s t : ℕ} {l′ l″ l‴ l⁗ : List ℕ}
+      → Wrote at a l l′ p → Wrote p b l′ l″ q → Wrote q c l″ l‴ s → Wrote s d l‴ l⁗ t → Wrote at (a ++ b ++ c ++ d) l l⁗ t
   four-all u v w x = two-all (a ++ b ++ c) d r (three-all a b c (two-1 (a ++ b ++ c) d r) u v w) x
 
 -- what `search` needs for a function of two pieces, three, four; for the last room of three or four it may want

@@ -42,8 +42,8 @@ module _ (x : Result) {f : Filtered} (is : f ≡ filtered x) (l l₁ m : List �
       let h : length (x .bytes) ≤ length l = omega (arith, ap length held) in
       rw (a, n, fits (length l) (x .bytes) h) (refl, (held, zeroed))
 
-  pub refusal-held : (n p : ℕ) → f .answer ≡ Refused n p → {l₂ l′ : List ℕ} {r : Written} → Put (refusalLine n p) l₁ l₂ r → l′ ≡ filled (length l₂) (take (r .length) l₂)
-      → Holds (textOf x) l l′ m m′ r
+  pub refusal-held : (n p : ℕ) → f .answer ≡ Refused n p → {l₂ l′ : List ℕ} {r : Written}
+      → Put (refusalLine n p) l₁ l₂ r → l′ ≡ filled (length l₂) (take (r .length) l₂) → Holds (textOf x) l l′ m m′ r
   unfolding answered
   refusal-held n p e {l₂} w c =
       let a : x .answer ≡ Refused n p = sym (ap (λ (g : Filtered). g .answer) is) ∙ e in
@@ -51,7 +51,8 @@ module _ (x : Result) {f : Filtered} (is : f ≡ filtered x) (l l₁ m : List �
 
 -- the length counts bytes of the first buffer: the fourth promise of the entry point
 pub printed : (text l l′ m m′ : List ℕ) {r : Written} → Holds text l l′ m m′ r
-    → (r ≡ written (fitted (length l) text)) × ((l′ ≡ filled (length l) (fitted (length l) text .text)) × ((m′ ≡ secondAfter m) × ((r .length ≤ length l′) × (r .length ≡ length (take (r .length) l′)))))
+    → (r ≡ written (fitted (length l) text)) × ((l′ ≡ filled (length l) (fitted (length l) text .text))
+    × ((m′ ≡ secondAfter m) × ((r .length ≤ length l′) × (r .length ≡ length (take (r .length) l′)))))
 printed text l l′ m m′ {r} h =
     let n : r .length ≡ length (fitted (length l) text .text) = ap (λ (w : Written). w .length) (h .0) in
     let most = filled-least (length l) (fitted (length l) text .text) in

@@ -1,4 +1,4 @@
--- From the first byte on, each turn puts one byte more; it lies above what is put so far, so that it is still as it was.
+-- From the first byte on, each turn puts one byte more, which lies above what is put so far and is still as it was.
 use Prim.Native.Nat.{_-_}
 use Rattle.octets.specs.Parts.{part}
 use Rattle.octets.proofs.Moves.{Up, moves}

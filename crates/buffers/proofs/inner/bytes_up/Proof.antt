@@ -1,4 +1,4 @@
--- From the last byte on, each turn puts one byte more; it lies below what is put so far, so that it is still as it was.
+-- From the last byte on, each turn puts one byte more, which lies below what is put so far and is still as it was.
 use Rattle.octets.specs.Parts.{part}
 use Rattle.octets.proofs.Moves.{Down, moves}
 use borrow.Author.Needs.{needs}

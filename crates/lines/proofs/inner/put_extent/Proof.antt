@@ -22,4 +22,11 @@ unfolding extent
 returns c = search three
 
 pub put-extent-spec : {M : Type 1} → statement M
-put-extent-spec = tie.close (tie.spec put-number-field-requires put-number-field-requires-2 put-number-field-requires-3 (λ c. search needs) returns)
+put-extent-spec =
+    tie.close
+    (tie.spec
+    put-number-field-requires
+    put-number-field-requires-2
+    put-number-field-requires-3
+    (λ c. search needs)
+    returns)

@@ -33,4 +33,12 @@ returns c =
     (extent .put-extent .ensures) (insert .put-word-field2 .ensures)
 
 pub put-read-line-spec : {M : Type 1} → statement M
-put-read-line-spec = tie.close (tie.spec put-number-field-requires put-word-field-requires put-extent-requires put-word-field-requires-2 (λ c. search needs) returns)
+put-read-line-spec =
+    tie.close
+    (tie.spec
+    put-number-field-requires
+    put-word-field-requires
+    put-extent-requires
+    put-word-field-requires-2
+    (λ c. search needs)
+    returns)

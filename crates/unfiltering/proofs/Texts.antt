@@ -15,12 +15,7 @@ use Rattle.text.specs.declared.Written.{Written}
 use Rattle.text.specs.Writing.{fitted, written}
 use Rattle.text.proofs.Fitted.{fits, Put, fitted-short}
 use Rattle.lines.specs.Lines.{refusalLine, tooLong}
-use Rattle.unfiltering.specs.Unfiltering.{answered, textOf, unfilterText}
-
--- the text stands at the front of l′, if it fits into l, and zeros behind it; the second buffer is zero: the three
--- promises of a function that prints
-abbrev pub Holds : List ℕ → List ℕ → List ℕ → List ℕ → List ℕ → Written → Type 0
-Holds text l l′ m m′ r = (r ≡ written (fitted (length l) text)) × ((l′ ≡ filled (length l) (fitted (length l) text .text)) × (m′ ≡ secondAfter m))
+use Rattle.unfiltering.specs.Unfiltering.{answered, textOf, unfilterText, TextHeld}
 
 -- what was put at the front, and what stands behind it cleared
 pub cleared : (xs l l₁ : List ℕ) {l′ : List ℕ} {r : Written} → Put xs l l₁ r → l′ ≡ filled (length l₁) (take (r .length) l₁)
@@ -33,7 +28,7 @@ filled-least n xs = rw (length-append xs (replicate (n - length xs) 0)) (omega a
 
 -- x is what undoing comes to, f its answer, and l₁ and m′ what it leaves
 module _ (x : Result) {f : Filtered} (is : f ≡ filtered x) (l l₁ m : List ℕ) {m′ : List ℕ} (same : length l₁ ≡ length l) (zeroed : m′ ≡ secondAfter m) where
-  pub data-held : f .answer ≡ Accepted → l₁ ≡ firstAfter x l → Holds (textOf x) l l₁ m m′ (record { answer = Accepted; length = f .made })
+  pub data-held : f .answer ≡ Accepted → l₁ ≡ firstAfter x l → TextHeld (textOf x) l l₁ m m′ (record { answer = Accepted; length = f .made })
   unfolding answered
   data-held e held =
       let a : x .answer ≡ Accepted = sym (ap (λ (g : Filtered). g .answer) is) ∙ e in
@@ -43,14 +38,14 @@ module _ (x : Result) {f : Filtered} (is : f ≡ filtered x) (l l₁ m : List �
       rw (a, n, fits (length l) (x .bytes) h) (refl, (held, zeroed))
 
   pub refusal-held : (n p : ℕ) → f .answer ≡ Refused n p → {l₂ l′ : List ℕ} {r : Written}
-      → Put (refusalLine n p) l₁ l₂ r → l′ ≡ filled (length l₂) (take (r .length) l₂) → Holds (textOf x) l l′ m m′ r
+      → Put (refusalLine n p) l₁ l₂ r → l′ ≡ filled (length l₂) (take (r .length) l₂) → TextHeld (textOf x) l l′ m m′ r
   unfolding answered
   refusal-held n p e {l₂} w c =
       let a : x .answer ≡ Refused n p = sym (ap (λ (g : Filtered). g .answer) is) ∙ e in
       rw (a, ← same) (w .0, (cleared (refusalLine n p) l₁ l₂ w c, zeroed))
 
 -- the length counts bytes of the first buffer: the fourth promise of the entry point
-pub printed : (text l l′ m m′ : List ℕ) {r : Written} → Holds text l l′ m m′ r
+pub printed : (text l l′ m m′ : List ℕ) {r : Written} → TextHeld text l l′ m m′ r
     → (r ≡ written (fitted (length l) text)) × ((l′ ≡ filled (length l) (fitted (length l) text .text))
     × ((m′ ≡ secondAfter m) × ((r .length ≤ length l′) × (r .length ≡ length (take (r .length) l′)))))
 printed text l l′ m m′ {r} h =

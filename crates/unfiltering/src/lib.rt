@@ -4,9 +4,9 @@ ghost use lib.ListN.{length, replicate};
 ghost use Rattle.octets.specs.Parts.{filled};
 ghost use Rattle.filter_format.specs.Undo.{roomOf, secondAfter, undo};
 ghost use Rattle.io.specs.Counts.{Counts};
-ghost use Rattle.text.specs.Writing.{fitted, written};
+ghost use Rattle.text.specs.Writing.{written};
 ghost use Rattle.lines.specs.Lines.{tooLong};
-ghost use Rattle.unfiltering.specs.Unfiltering.{textOf, printedBy};
+ghost use Rattle.unfiltering.specs.Unfiltering.{textOf, printedBy, TextHeld};
 use answers::Answer;
 use buffers::inner::clear_behind;
 use filters::undo;
@@ -16,9 +16,8 @@ use text::Written;
 
 // Puts a block's data, or the line of its refusal.
 fn put_undone(block: &[u8], first: &mut [u8], second: &mut [u8]) -> Written
-    ensures { λ r. ⌜ r ≡ written (fitted (length (now (first .entry))) (textOf (undo (roomOf (now (first .entry)) (now (second .entry))) (now (block .entry))))) ⌝ }
-    ensures { λ _. ⌜ now (first .exit) ≡ filled (length (now (first .entry))) (fitted (length (now (first .entry))) (textOf (undo (roomOf (now (first .entry)) (now (second .entry))) (now (block .entry)))) .text) ⌝ }
-    ensures { λ _. ⌜ now (second .exit) ≡ secondAfter (now (second .entry)) ⌝ }
+    ensures { λ r. ⌜ TextHeld (textOf (undo (roomOf (now (first .entry)) (now (second .entry))) (now (block .entry))))
+        (now (first .entry)) (now (first .exit)) (now (second .entry)) (now (second .exit)) r ⌝ }
 {
     let result = undo(block, first, second);
     let answer = result.answer;
@@ -35,9 +34,8 @@ fn put_undone(block: &[u8], first: &mut [u8], second: &mut [u8]) -> Written
 
 // Puts the line of an input that is too long.
 fn put_long(first: &mut [u8], second: &mut [u8]) -> Written
-    ensures { λ r. ⌜ r ≡ written (fitted (length (now (first .entry))) tooLong) ⌝ }
-    ensures { λ _. ⌜ now (first .exit) ≡ filled (length (now (first .entry))) (fitted (length (now (first .entry))) tooLong .text) ⌝ }
-    ensures { λ _. ⌜ now (second .exit) ≡ secondAfter (now (second .entry)) ⌝ }
+    ensures { λ r. ⌜ TextHeld tooLong
+        (now (first .entry)) (now (first .exit)) (now (second .entry)) (now (second .exit)) r ⌝ }
 {
     let written = write_too_long(first);
     clear_behind(first, written.length);

@@ -1,16 +1,21 @@
 -- What the calls answer is what the definitions say of it, number by number. Assumes nothing.
 use Prim.Native.Nat.{ℕ}
-use mathlib.Core.Path.{_≡_, ap, _∙_}
+use mathlib.Core.Path.{_≡_, sym, ap, _∙_}
 use mathlib.Core.List.{List}
 use lib.ListN.{length}
 use Rattle.answers.specs.declared.Answer.{Answer}
 use Rattle.answers.specs.Answer.{numberOf, placeOf}
 use Rattle.sff_format.specs.declared.Outcome.{Outcome}
-use Rattle.sff_format.specs.Step.{State}
+use Rattle.sff_format.specs.declared.ReadView.{ReadView}
+use Rattle.sff_format.specs.Step.{State, found, stop}
+use Rattle.sff_format.specs.Step as format
 use Rattle.sff_reader.specs.declared.Reader.{Reader}
-use Rattle.sff_reader.specs.Forms.{stateOf}
+use Rattle.sff_reader.specs.declared.Step.{Step}
+use Rattle.sff_reader.specs.declared.Step.the-variants.{Found, Stopped}
+use Rattle.sff_reader.specs.Forms.{stateOf, stepOf}
 use Rattle.sff_signal.specs.declared.Summary.{Summary}
-use Rattle.harness_files.specs.Outs.{flag, putFront}
+use Rattle.harness_files.specs.declared.Stepped.{Stepped}
+use Rattle.harness_files.specs.Outs.{flag, steppedOf, putFront}
 
 -- an answer's number and place
 pub number-told : (told answer : Answer) (number : ℕ) → told ≡ answer → number ≡ numberOf told → number ≡ numberOf answer
@@ -23,7 +28,8 @@ place-told told answer place e p = p ∙ ap placeOf e
 pub count-told : (told bytes : List ℕ) → told ≡ bytes → length told ≡ length bytes
 count-told told bytes e = ap length e
 
-pub front-told : (told bytes out out-after : List ℕ) → told ≡ bytes → out-after ≡ putFront told out → out-after ≡ putFront bytes out
+pub front-told : (told bytes out out-after : List ℕ)
+    → told ≡ bytes → out-after ≡ putFront told out → out-after ≡ putFront bytes out
 front-told told bytes out out-after e f = f ∙ ap (λ x. putFront x out) e
 
 -- a reader's place, count of reads and mark of the index
@@ -36,6 +42,17 @@ passed-told told state e = ap (λ s. s .passed-reads) e
 pub index-told : (told : Reader) (state : State) (number : ℕ)
     → stateOf told ≡ state → number ≡ flag (told .«passed_index») → number ≡ flag (state .passed-index)
 index-told told state number e n = n ∙ ap (λ s. flag (s .passed-index)) e
+
+-- a step's numbers, where it has found a read and where it refuses
+pub found-told : (told : Step) (view : ReadView) (next : Reader) (step : format.Step) (numbers : Stepped)
+    → told ≡ Found view next → stepOf told ≡ step
+    → numbers ≡ steppedOf (found view (stateOf next)) → numbers ≡ steppedOf step
+found-told told view next step numbers t e n = n ∙ ap steppedOf (ap stepOf (sym t) ∙ e)
+
+pub refused-told : (told : Step) (number place : ℕ) (unmoved : Reader) (step : format.Step) (numbers : Stepped)
+    → told ≡ Stopped number place unmoved → stepOf told ≡ step
+    → numbers ≡ steppedOf (stop number place (stateOf unmoved)) → numbers ≡ steppedOf step
+refused-told told number place unmoved step numbers t e n = n ∙ ap steppedOf (ap stepOf (sym t) ∙ e)
 
 -- the three signals of a summary
 pub strongest-told : (told summary : Summary) → told ≡ summary → told .strongest ≡ summary .strongest

@@ -16,6 +16,7 @@ use Rattle.sff_format.proofs.ReadLaid.{fits-16}
 use Rattle.sff_format.proofs.Steps.{step-found, step-stop, read-accepted}
 use Rattle.harness_files.specs.Outs.{SmallClips}
 
+-- the clips of a read whose first 16 bytes lie in the file
 small-at : (F : ℕ) (b : List ℕ) (p : ℕ) → Bytes b → p + 16 ≤ length b → SmallClips (viewAt F b p)
 unfolding viewAt
 small-at F b p y h = record {
@@ -25,6 +26,7 @@ small-at F b p y h = record {
   adapter-right = number-small 2 (p + 14) b y (omega arith);
 }
 
+-- those of what a step answers
 abbrev Small : Step → Type 0
 Small (found v next) = SmallClips v
 Small (stop n p s) = Unit {0}
@@ -33,7 +35,9 @@ step-small : (b : List ℕ) (s : State) → Bytes b → Small (step b s)
 step-small b s y = go (stepTest b s) refl
   where
     go : (a : Answer) → stepTest b s ≡ a → Small (step b s)
-    go Accepted e = rw (step-found b s e) (small-at (flows b) b (boundary b s) y (fits-16 (flowCharacters b) b (boundary b s) (read-accepted b s e)))
+    go Accepted e =
+        let fits = fits-16 (flowCharacters b) b (boundary b s) (read-accepted b s e) in
+        rw (step-found b s e) (small-at (flows b) b (boundary b s) y fits)
     go (Refused n p) e = rw (step-stop b s n p e) tt
 
 pub found-small : (b : List ℕ) (s : State) (v : ReadView) (next : State) → Bytes b → found v next ≡ step b s → SmallClips v

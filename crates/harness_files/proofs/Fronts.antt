@@ -8,10 +8,13 @@ use borrow.Author.Tests.{lt-ltb, le-ltb}
 use Rattle.octets.specs.Parts.{part, putAt}
 use Rattle.harness_files.specs.Outs.{putFront}
 
+-- without room nothing is put
 pub front-none : (xs l : List ℕ) → length l < length xs → l ≡ putFront xs l
 unfolding putFront
 front-none xs l h = rw (lt-ltb (length l) (length xs) h)
 
-pub front-put : (xs l : List ℕ) → length xs ≤ length l → putAt 0 (part 0 (length xs) xs) l ≡ putFront xs l
+-- with room all of the bytes are
+pub front-put : (xs l after : List ℕ)
+    → length xs ≤ length l → after ≡ putAt 0 (part 0 (length xs) xs) l → after ≡ putFront xs l
 unfolding putFront
-front-put xs l h = rw (le-ltb (length l) (length xs) h, take-length xs)
+front-put xs l after h e = rw (le-ltb (length l) (length xs) h, e, take-length xs)

@@ -7,7 +7,8 @@ use Rattle.filter_format.specs.declared.Filtered.{Filtered}
 use Rattle.filter_format.specs.Undo.{Result, filtered}
 
 -- the answer's number
-pub number-told : (told : Filtered) (result : Result) (number : ℕ) → told ≡ filtered result → number ≡ numberOf (told .answer) → number ≡ numberOf (result .answer)
+pub number-told : (told : Filtered) (result : Result) (number : ℕ)
+    → told ≡ filtered result → number ≡ numberOf (told .answer) → number ≡ numberOf (result .answer)
 number-told told result number e n = n ∙ ap (λ x. numberOf (x .answer)) e
 
 -- the count of bytes

@@ -1,15 +1,15 @@
 -- Number, place and length are those of what the writer answered for the read with the clips that the number holds, and
 -- the buffer is as it left it.
-use Rattle.harness_files.proofs.Told.{number-told, place-told, length-told}
+use Rattle.harness_files.proofs.Told.{written}
 use borrow.Author.Needs.{needs}
 use Rattle.harness_files.proofs.append_out.Statement.{statement}
 use Rattle.harness_files.proofs.append_out.Tie as tie
 
 returns : tie.Need-returns
 returns c =
-    let written = c .before .before .before .before in
-    let e = rw (written .before .clips-from .ensures) at (written .append .ensures) in
-    search (number-told, place-told, length-told, e .0, e .1, needs)
+    let at-append = c .before .before .before .before in
+    let e = rw (at-append .before .clips-from .ensures) at (at-append .append .ensures) in
+    search (written, e .0, e .1, needs)
 
 pub append-out-spec : {M : Type 1} → statement M
 append-out-spec =

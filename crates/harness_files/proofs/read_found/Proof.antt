@@ -1,3 +1,4 @@
+-- Each number is that of the view or of the next state; mark and clips are what their calls gave.
 use Rattle.harness_files.specs.Outs.{steppedOf}
 use borrow.Author.Needs.{needs}
 use Rattle.harness_files.proofs.read_found.Statement.{statement}

@@ -1,3 +1,4 @@
+-- The test that led to each `return` says which of the two filters the definition takes, and the call is that filter.
 use Rattle.harness_filters.specs.Samples.{samples}
 use borrow.Author.Tests.{eq-eqb, ne-eqb}
 use borrow.Author.Needs.{needs}

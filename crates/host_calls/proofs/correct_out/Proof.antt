@@ -1,10 +1,14 @@
 -- Number, place and length are those of what the correction answered, and the buffer is as it left it.
+use mathlib.Core.Path.{refl}
 use borrow.Author.Needs.{needs}
 use Rattle.host_calls.proofs.correct_out.Statement.{statement}
 use Rattle.host_calls.proofs.correct_out.Tie as tie
 
 returns : tie.Need-returns
-returns c = (cc, cc, cc, cc)
+returns c =
+    let corrected = c .before .before .before .before .correct .ensures in
+    let outcome = corrected .0 in
+    (rw (← outcome) (search needs), rw (← outcome) (search needs), rw (← outcome) refl, corrected .1)
 
 pub correct-out-spec : {M : Type 1} → statement M
 correct-out-spec =

@@ -215,8 +215,8 @@ each-filter = record {
 -- DEMAND 3: corrections, by one record and by every list of records
 
 -- One record, on any buffer with any length stated; the sentences stand at the fields. The reasons in document 01's
--- order are the table `reasonsAgainst`; `correction` is what the record says, `content` what the file says, and `new` that with the
--- correction carried out.
+-- order are the table `reasonsAgainst`; `correction` is what the record says, `content` what the file says, and `new`
+-- that with the correction carried out.
 -- Code: `sff_corrector::correct`, and `service::sffstore_correct` over it.
 -- Shuts out:
 --   - a corrector that writes nothing (sff_edit/writes_nothing, sff_correction/writes_nothing)
@@ -303,8 +303,9 @@ pub in-place-is-afresh : (buffer : List ℕ) (len : ℕ) («record» : List ℕ)
     }
 in-place-is-afresh = corrected-written
 
--- A list of whole records on an accepted file; the sentences stand at the fields. `content` is what the file says, `all` how
--- many records there are, `count` the count that is answered, and `before k` what a list of the first k records leaves.
+-- A list of whole records on an accepted file; the sentences stand at the fields. `content` is what the file says,
+-- `all` how many records there are, `count` the count that is answered, and `before k` what a list of the first k
+-- records leaves.
 -- Code: `sff_corrector::correct_list`.
 -- Shuts out:
 --   - a list run that does its first record only (sff_corrector/first_record_only, sff_correction/first_record_only)

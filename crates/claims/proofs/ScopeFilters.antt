@@ -42,8 +42,8 @@ pub refused-samples-back : (room precision : ℕ) (source : List ℕ)
 refused-samples-back room precision source h = ap length (undo-samples-none room precision source h)
 
 -- "64, 65, 66: level byte, 1 to 3 here (66: then two zeros), data in units of 1, 2, 4 bytes". Of such a block, of units
--- of `width` bytes whose data start at `start`: one that is undone has such a level, and zeros; any other header is 42, where
--- the tests before it pass
+-- of `width` bytes whose data start at `start`: one that is undone has such a level, and zeros; any other header is 42,
+-- where the tests before it pass
 pub level-of-block : (room width start : ℕ) (block : List ℕ) → DeltaFormat (getD block 0 0) width start
     → numberOf (undoLayer room block .answer) ≡ 0
     → (1 ≤ getD block 1 0) × (getD block 1 0 ≤ 3) × (start ≡ 4 → (getD block 2 0 ≡ 0) × (getD block 3 0 ≡ 0))

@@ -1,4 +1,5 @@
--- A pass for each level: the levels left, of what stands, are the goal. One argument for every transform. Assumes nothing.
+-- A pass for each level: the levels left, of what stands, are the goal. One argument for every transform. Assumes
+-- nothing.
 use mathlib.Core.Path.{_≡_, refl, sym, ap, _∙_}
 use mathlib.Core.List.{List}
 use Prim.Native.Nat.{ℕ, suc, _-_, _%_, _<_, _≤_}

@@ -17,8 +17,8 @@ use Rattle.filter_format.specs.Delta.{scan, difference, sum, latest, undeltas, 
 use Rattle.filter_format.proofs.Wholes.{range-positive, units-in}
 use Rattle.filter_format.proofs.Levels.{one-level-less}
 
--- `left` units are to come from `at` on, and they and what is made are the goal. The code's p stands for what is remembered, modulo
--- the units' range.
+-- `left` units are to come from `at` on, and they and what is made are the goal. The code's p stands for what is
+-- remembered, modulo the units' range.
 pub record Mid (o g : ℕ → ℕ → ℕ) (w p left at : ℕ) (s₀ s goal : List ℕ) : Type 0 where
   pub width : IsWidth w
   pub room : at + w * left ≡ length s

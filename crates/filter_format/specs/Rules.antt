@@ -11,8 +11,8 @@ use Rattle.filter_format.specs.Units.{unitsOf}
 use Rattle.filter_format.specs.Encode.{encode}
 
 -- ZTR, format 64: "replaces successive bytes with their differences .. For determining the first difference we compare
--- against zero .. unsigned values with automatic an wrap-around". ys are the differences of xs by the modulus: each with
--- the unit before makes the unit
+-- against zero .. unsigned values with automatic an wrap-around". ys are the differences of xs by the modulus: each
+-- with the unit before makes the unit
 pub record Differences (modulus : ℕ) (xs ys : List ℕ) : Type 0 where
   pub as-many : length ys ≡ length xs
   pub each : (i : ℕ) → i < length xs

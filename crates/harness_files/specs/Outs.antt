@@ -1,5 +1,5 @@
--- What the exports leave, in the definitions' words: what is lent to a call comes first, then the number that it answers
--- and what it leaves in the memory lent to it. Assumes nothing: these are definitions.
+-- What the exports leave, in the definitions' words: what is lent to a call comes first, then the number that it
+-- answers and what it leaves in the memory lent to it. Assumes nothing: these are definitions.
 use Prim.Native.Nat.{ℕ, _+_, _*_, _/_, _%_, _<_}
 use mathlib.Core.Path.{_≡_}
 use mathlib.Core.Bool.{Bool, cond, not}
@@ -97,7 +97,8 @@ clipsFrom number = record {
   «adapter_right» = number % 65536;
 }
 
--- what a copy of these characters leaves: number and place of the header's answer, the count of the characters and the buffer
+-- what a copy of these characters leaves: number and place of the header's answer, the count of the characters and the
+-- buffer
 abbrev pub HeaderCopied : List ℕ → List ℕ → List ℕ → ℕ → ℕ → ℕ → List ℕ → Type 0
 HeaderCopied characters file out number place made out-after =
     (number ≡ numberOf (headerTest file))
@@ -132,7 +133,8 @@ SteppedOn file at passed index-passed number at-after passed-after index-passed-
     steppedWith number place at-after passed-after index-passed-after read-start name-length bases clips
     ≡ steppedOf (step file (stateFrom at passed index-passed))
 
--- what a copy of an insert leaves: number and place of the answer, the insert's ends, the count of its bases and the buffer
+-- what a copy of an insert leaves: number and place of the answer, the insert's ends, the count of its bases and the
+-- buffer
 abbrev pub InsertCopied : List ℕ → ℕ → List ℕ → ℕ → ℕ → ℕ → ℕ → ℕ → List ℕ → Type 0
 InsertCopied file position out number place first last made out-after =
     (number ≡ numberOf (positionTest file position))

@@ -1,5 +1,6 @@
--- The tests decide first: a refusal zeroes both buffers. A block that passes is undone into the first buffer, and there stand the
--- data, with zeros behind them, or the rest of the chain, which `choose` undoes from there with seven filters left.
+-- The tests decide first: a refusal zeroes both buffers. A block that passes is undone into the first buffer, and there
+-- stand the data, with zeros behind them, or the rest of the chain, which `choose` undoes from there with seven filters
+-- left.
 use mathlib.Core.Path.{sym, _∙_}
 use mathlib.Core.Bool.{true}
 use borrow.Author.Needs.{needs}
@@ -9,7 +10,8 @@ use Rattle.filters.proofs.Choice.{Told, Passed, told-accepted, chosen-r
 use Rattle.filters.proofs.undo.Statement.{statement}
 use Rattle.filters.proofs.undo.Tie as tie
 
--- the start, from where the room is known; the tests, from where the filter is undone; and that, from where its format is asked
+-- the start, from where the room is known; the tests, from where the filter is undone; and that, from where its format
+-- is asked
 abbrev at-start : tie.After-least → tie.Start
 at-start c = c .before .before .before .before
 

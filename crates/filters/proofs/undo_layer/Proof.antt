@@ -1,5 +1,5 @@
--- The tests decide first: a refusal zeroes both buffers. A layer that passes is undone into the first buffer, with zeros behind
--- it, and the second is zeroed.
+-- The tests decide first: a refusal zeroes both buffers. A layer that passes is undone into the first buffer, with
+-- zeros behind it, and the second is zeroed.
 use borrow.Author.Needs.{needs}
 use Rattle.filter_format.specs.Block.{undone}
 use Rattle.filters.proofs.Buffers.{Holds, held-inside}

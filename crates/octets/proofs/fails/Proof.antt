@@ -1,4 +1,5 @@
--- After j turns the answer is that of the first j bytes: each turn adds what the next byte gives, and at the end all are seen.
+-- After j turns the answer is that of the first j bytes: each turn adds what the next byte gives, and at the end all
+-- are seen.
 use Prim.Native.Nat.{_-_}
 use borrow.Author.Needs.{needs}
 use lib.ListN.{length}

@@ -1,5 +1,5 @@
--- The tests leave out the bytes that do not all lie in s, of which the definition makes the empty list; of the others the part is
--- the definition's.
+-- The tests leave out the bytes that do not all lie in s, of which the definition makes the empty list; of the others
+-- the part is the definition's.
 use Prim.Native.Nat.{_+_, _-_}
 use mathlib.Core.Path.{_≡_, sym}
 use native.Mathlib.Omega.{arith}

@@ -21,8 +21,8 @@ use Rattle.sff_corrector.proofs.carry_out.Tie as tie
 size : (s : tie.Start) → s .args .len ≡ length (take (s .args .len) (s .args .buffer .now))
 size s = sym (length-take-le (s .args .len) (s .args .buffer .now) (s .pre .0 .inside))
 
--- the places: the start, from where the fields are read; that, from where 21 does not hold; that, from where the read is
--- found; that, from where the reasons are asked; that, from where none holds
+-- the places: the start, from where the fields are read; that, from where 21 does not hold; that, from where the read
+-- is found; that, from where the reasons are asked; that, from where none holds
 abbrev at-fields : tie.After-record-fields → tie.Start
 at-fields c = c .before .before .before
 

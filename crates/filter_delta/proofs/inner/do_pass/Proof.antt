@@ -1,5 +1,5 @@
--- Each turn puts one unit less the one before it: what is made and the differences of the units to come are together those of
--- all the units.
+-- Each turn puts one unit less the one before it: what is made and the differences of the units to come are together
+-- those of all the units.
 use Rattle.filter_delta.proofs.Pass.{Doing, do-turn, do-done, passes}
 use native.Mathlib.Omega.{arith}
 use borrow.Author.Needs.{needs}

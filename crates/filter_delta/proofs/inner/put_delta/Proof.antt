@@ -1,5 +1,5 @@
--- After the copy the data stand at `at`, and that part is lent to `do_levels`: when it is back, the data stand there with all
--- levels on, and the rest of the buffer is as it was.
+-- After the copy the data stand at `at`, and that part is lent to `do_levels`: when it is back, the data stand there
+-- with all levels on, and the rest of the buffer is as it was.
 use borrow.Author.Needs.{needs}
 use Rattle.filter_delta.proofs.Transform.{put-on}
 use Rattle.filter_delta.proofs.Lent.{Copied, lent-whole, given-back}

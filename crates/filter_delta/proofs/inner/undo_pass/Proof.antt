@@ -1,5 +1,5 @@
--- Each turn puts the sum of one unit and of those before it: what is made and the sums of the units to come are together those of
--- all the units. What the code adds at 32 bits is the sum modulo the units' range.
+-- Each turn puts the sum of one unit and of those before it: what is made and the sums of the units to come are
+-- together those of all the units. What the code adds at 32 bits is the sum modulo the units' range.
 use Rattle.filter_delta.proofs.Pass.{Undoing, undo-turn, undo-done, passes}
 use native.Mathlib.Omega.{arith}
 use borrow.Author.Needs.{needs}

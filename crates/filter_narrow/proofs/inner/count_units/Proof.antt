@@ -1,5 +1,5 @@
--- Each turn counts the unit that begins at `at`: those counted and those that begin in the rest are all of them, and the
--- rest lacks what the whole lacks.
+-- Each turn counts the unit that begins at `at`: those counted and those that begin in the rest are all of them, and
+-- the rest lacks what the whole lacks.
 use Prim.Native.Nat.{_-_}
 use native.Mathlib.Omega.{arith}
 use lib.ListN.{length}

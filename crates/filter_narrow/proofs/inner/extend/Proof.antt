@@ -1,4 +1,5 @@
--- Below 128 the unit is the byte; from 128 on it is negative, and 4294967040 more is its two's complement in four bytes.
+-- Below 128 the unit is the byte; from 128 on it is negative, and 4294967040 more is its two's complement in four
+-- bytes.
 use native.Mathlib.Omega.{arith}
 use borrow.Author.Tests.{lt-ltb, le-ltb}
 use Rattle.filter_format.specs.Narrow.{extended}

@@ -1,6 +1,6 @@
--- The proof of the cycle of calls {choose, layer}. A block that is refused, or of format 0, ends the chain, by what its tests told.
--- A layer is undone into the other buffer, and what is left of the chain is undone there, with the buffers having changed places.
--- The measure: twice the filters that may still be opened, and one more at the choice.
+-- The proof of the cycle of calls {choose, layer}. A block that is refused, or of format 0, ends the chain, by what its
+-- tests told. A layer is undone into the other buffer, and what is left of the chain is undone there, with the buffers
+-- having changed places. The measure: twice the filters that may still be opened, and one more at the choice.
 use Prim.Native.Nat.{ℕ, _+_, _*_, _<_}
 use mathlib.Core.Path.{_≡_, sym, _∙_}
 use mathlib.Core.Bool.{false}

@@ -1,5 +1,5 @@
--- The tests stand in the definition's order, on the filter that the caller gives, which is the block's: at each `return` none of
--- those before it holds.
+-- The tests stand in the definition's order, on the filter that the caller gives, which is the block's: at each
+-- `return` none of those before it holds.
 use Rattle.answers.proofs.Chains.{refusal, onward}
 use Rattle.filters.proofs.Chain.{judging}
 use borrow.Author.Needs.{needs}

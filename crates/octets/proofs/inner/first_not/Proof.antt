@@ -1,5 +1,5 @@
--- No byte before `from + j` fails, so that what is sought from `from` on is sought from there on: the next byte fails and is it,
--- or passes, and where no byte is left it is `to`.
+-- No byte before `from + j` fails, so that what is sought from `from` on is sought from there on: the next byte fails
+-- and is it, or passes, and where no byte is left it is `to`.
 use Prim.Native.Nat.{_-_}
 use native.Mathlib.Omega.{arith}
 use Rattle.octets.specs.Scans.{passes}

@@ -1,4 +1,5 @@
--- The number of four bytes is the sum of the bytes, each by its weight, and as each is below 256 the sum is below 2 to the 32nd.
+-- The number of four bytes is the sum of the bytes, each by its weight, and as each is below 256 the sum is below 2 to
+-- the 32nd.
 use native.Mathlib.Omega.{arith}
 use Rattle.octets.proofs.Digits.{number-four}
 use borrow.Author.Needs.{needs}

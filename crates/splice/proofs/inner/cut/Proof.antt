@@ -1,4 +1,5 @@
--- `resize` to no byte moves the tail to `at` and zeroes the n bytes freed behind it: the file with nothing in their place.
+-- `resize` to no byte moves the tail to `at` and zeroes the n bytes freed behind it: the file with nothing in their
+-- place.
 use native.Mathlib.Nat.{add-zero}
 use Rattle.octets.specs.Parts.{spliced}
 use borrow.Author.Needs.{needs}

@@ -1,5 +1,5 @@
--- Of equal sizes the tail stays. For a greater one it moves up and nothing is freed. For a smaller one it moves down, and the
--- zeros behind it reach to the old end: the tail and then the zeros are what is put.
+-- Of equal sizes the tail stays. For a greater one it moves up and nothing is freed. For a smaller one it moves down,
+-- and the zeros behind it reach to the old end: the tail and then the zeros are what is put.
 use Prim.Native.Nat.{ℕ, _+_, _-_}
 use mathlib.Core.Path.{_≡_, sym, _∙_}
 use mathlib.Core.List.{List, append-nil}

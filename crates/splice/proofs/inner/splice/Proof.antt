@@ -1,5 +1,5 @@
--- `resize` has put the tail and the zeros behind the place, `copy` fills the place: the two runs, one behind the other, are what
--- the definition puts at `at`.
+-- `resize` has put the tail and the zeros behind the place, `copy` fills the place: the two runs, one behind the other,
+-- are what the definition puts at `at`.
 use Prim.Native.Nat.{ℕ, _+_, _-_}
 use mathlib.Core.Path.{_≡_, _∙_}
 use mathlib.Core.List.{List, _++_}

@@ -5,7 +5,7 @@ ghost use lib.ListN.{length, take, replicate};
 ghost use Rattle.octets.specs.Parts.{part, putAt, filled};
 ghost use Rattle.octets.specs.Numbers.{bytesOf, words};
 
-// Puts the two low bytes of v at `at`.
+// Puts the two low bytes of `value` at `at`.
 pub fn put16(s: &mut [u8], at: usize, v: usize)
     requires { ⌜ at + 2 ≤ length (now s) ⌝ }
     ensures { λ _. ⌜ now (s .exit) ≡ putAt at (bytesOf 2 v) (now (s .entry)) ⌝ }
@@ -14,7 +14,7 @@ pub fn put16(s: &mut [u8], at: usize, v: usize)
     s[at + 1] = (v % 256) as u8;
 }
 
-// Puts the four low bytes of v at `at`.
+// Puts the four low bytes of `value` at `at`.
 pub fn put32(s: &mut [u8], at: usize, v: usize)
     requires { ⌜ at + 4 ≤ length (now s) ⌝ }
     ensures { λ _. ⌜ now (s .exit) ≡ putAt at (bytesOf 4 v) (now (s .entry)) ⌝ }
@@ -25,7 +25,7 @@ pub fn put32(s: &mut [u8], at: usize, v: usize)
     s[at + 3] = (v % 256) as u8;
 }
 
-// Puts the eight bytes of v at `at`.
+// Puts the eight bytes of `value` at `at`.
 pub fn put64(s: &mut [u8], at: usize, v: usize)
     requires { ⌜ at + 8 ≤ length (now s) ⌝ }
     ensures { λ _. ⌜ now (s .exit) ≡ putAt at (bytesOf 8 v) (now (s .entry)) ⌝ }
@@ -50,7 +50,7 @@ pub fn put_words(s: &mut [u8], at: usize, values: &[u16])
     }
 }
 
-// Puts v into each place from `from` to before `to`.
+// Puts `value` into each place from `from` to before `to`.
 pub fn fill(s: &mut [u8], from: usize, to: usize, v: u8)
     requires { ⌜ (from ≤ to) × (to ≤ length (now s)) ⌝ }
     ensures { λ _. ⌜ now (s .exit) ≡ putAt from (replicate (to - from) v) (now (s .entry)) ⌝ }

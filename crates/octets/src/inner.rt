@@ -58,7 +58,7 @@ pub fn get64(s: &[u8], at: usize) -> usize
     get32(s, at) * 4294967296 + get32(s, at + 4)
 }
 
-// Whether the n bytes of s from `at` on are those of t from `from` on.
+// Whether the n bytes of `bytes` from `at` on are those of `other` from `from` on.
 pub fn same_part(s: &[u8], at: usize, t: &[u8], from: usize, n: usize) -> bool
     requires { ⌜ (at + n ≤ length (now s)) × (from + n ≤ length (now t)) ⌝ }
     ensures { λ r. ⌜ r ≡ same (part at n (now (s .entry))) (part from n (now (t .entry))) ⌝ }

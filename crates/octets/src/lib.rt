@@ -47,7 +47,7 @@ pub fn greatest32(a: u32, b: u32) -> u32
     if a < b { b } else { a }
 }
 
-// The n bytes from `at` on, as a part of s; its empty front where they do not all lie in s.
+// The n bytes from `at` on, as a part of `bytes`; its empty front where they do not all lie there.
 pub fn stretch(s: &[u8], at: usize, n: usize) -> &[u8]
     ensures { λ r. ⌜ now r ≡ wholePart at n (now (s .entry)) ⌝ }
 {

@@ -1,4 +1,4 @@
--- The tests leave out the bytes that do not all lie in s, of which the definition makes the empty list; of the others
+-- The tests leave out the bytes that do not all lie in the slice, of which the definition makes the empty list; of the others
 -- the part is the definition's.
 use Prim.Native.Nat.{_+_, _-_}
 use mathlib.Core.Path.{_≡_, sym}

@@ -1,4 +1,4 @@
--- The higher four bytes are those of v / 2^32 and the lower four those of v % 2^32, put one behind the other.
+-- The higher four bytes are those of the value / 2^32 and the lower four those of the value % 2^32, put one behind the other.
 use native.Mathlib.Omega.{arith}
 use Rattle.octets.proofs.Digits.{put-halves}
 use borrow.Author.Needs.{needs}

@@ -1,4 +1,4 @@
--- w is 1, 2 or 4, and each test leaves one of them: the number given is -127 in so many bytes.
+-- The width is 1, 2 or 4, and each test leaves one of them: the number given is -127 in so many bytes.
 use mathlib.Core.Path.{_≡_, ap}
 use native.Mathlib.Omega.{arith}
 use Rattle.filter_format.specs.Narrow.{least}

@@ -1,5 +1,5 @@
--- The test says which of the two forms the unit has, and each has its length: one byte, or w and the byte 128 before
--- them.
+-- The test says which of the two forms the unit has, and each has its length: one byte, or the byte 128 and the whole
+-- unit.
 use mathlib.Core.Path.{sym}
 use native.Mathlib.Omega.{arith}
 use Rattle.filter_narrow.proofs.Units.{length-one, length-whole}

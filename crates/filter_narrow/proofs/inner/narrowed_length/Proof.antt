@@ -1,5 +1,5 @@
 -- Each turn adds one unit's length: the sum and the length of the units to come are together the length of all. A unit
--- of w bytes, two at least, takes at most w + 1, so that the sum stays within one and a half times the data.
+-- of two bytes or more takes at most one byte more, so that the sum stays within one and a half times the data.
 use native.Mathlib.Omega.{arith}
 use Rattle.filter_narrow.proofs.Units.{Measuring, measuring-start, measuring-few, measuring-more, measuring-done, remaining-within}
 use borrow.Author.Needs.{needs}

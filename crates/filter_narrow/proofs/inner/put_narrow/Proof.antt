@@ -1,5 +1,5 @@
--- A unit that fits one byte is its low byte, and another is the byte 128 and then its w bytes: what the test gave says
--- which.
+-- A unit that fits one byte is its low byte, and another is the byte 128 and then the whole unit: what the test gave
+-- says which.
 use Prim.Native.Nat.{ℕ, _+_}
 use mathlib.Core.Path.{_≡_, sym, ap, _∙_}
 use native.Mathlib.Omega.{arith}

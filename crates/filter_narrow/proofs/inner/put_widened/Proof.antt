@@ -1,4 +1,4 @@
--- Each turn puts the next unit whole, in w bytes: what is put and what is to come are together all the source's units.
+-- Each turn puts the next unit whole: what is put and what is to come are together all the source's units.
 use Prim.Native.Nat.{_-_}
 use native.Mathlib.Omega.{arith}
 use lib.ListN.{length}

@@ -97,8 +97,7 @@ clipsFrom number = record {
   «adapter_right» = number % 65536;
 }
 
--- what a copy of these characters leaves: number and place of the header's answer, the count of the characters and the
--- buffer
+-- what a copy of characters leaves: number and place of the header's answer, their count and the buffer
 abbrev pub HeaderCopied : List ℕ → List ℕ → List ℕ → ℕ → ℕ → ℕ → List ℕ → Type 0
 HeaderCopied characters file out number place made out-after =
     (number ≡ numberOf (headerTest file))
@@ -133,8 +132,7 @@ SteppedOn file at passed index-passed number at-after passed-after index-passed-
     steppedWith number place at-after passed-after index-passed-after read-start name-length bases clips
     ≡ steppedOf (step file (stateFrom at passed index-passed))
 
--- what a copy of an insert leaves: number and place of the answer, the insert's ends, the count of its bases and the
--- buffer
+-- what a copy of an insert leaves: number and place of the answer, its ends, the count of its bases and the buffer
 abbrev pub InsertCopied : List ℕ → ℕ → List ℕ → ℕ → ℕ → ℕ → ℕ → ℕ → List ℕ → Type 0
 InsertCopied file position out number place first last made out-after =
     (number ≡ numberOf (positionTest file position))

@@ -9,12 +9,12 @@ use lib.Dec.{ltb, eqb}
 use lib.ListN.{length}
 use borrow.Author.Tests.{not-false, ltb-true, ltb-false, lt-ltb, le-ltb, eqb-true, eq-eqb, ne-eqb}
 use Rattle.octets.specs.Parts.{part}
-use Rattle.octets.specs.Scans.{run, firstNot, Every}
+use Rattle.octets.specs.Scans.{leadingCount, firstNot, Every}
 use Rattle.octets.proofs.Lists.{length-part}
-use Rattle.octets.proofs.Scan.{run-le}
+use Rattle.octets.proofs.Scan.{leading-le}
 use Rattle.answers.specs.declared.Answer.{Answer}
 use Rattle.answers.specs.declared.Answer.the-variants.{Accepted, Refused}
-use Rattle.answers.specs.Answer.{numberOf, placeOf, when, stopped, shifted, own, _then_, acceptedOr}
+use Rattle.answers.specs.Answer.{numberOf, placeOf, when, stopped, shifted, zeroPlace, _then_, acceptedOr}
 
 -- the code's tests as those of the definitions, for `search`
 pub ruleset tests = (lt-ltb, le-ltb, eq-eqb, ne-eqb)
@@ -111,14 +111,14 @@ module _ (b : List ℕ) (p n to c : ℕ) (e : to ≡ p + n) (fits : p + n ≤ le
   pub scan-ok : (t : ℕ → Bool) → stopped c (firstNot t p to b) to ≡ Accepted → Every t (part p n b)
   unfolding firstNot
   scan-ok t a =
-      let h : to ≤ p + run t (part p (to - p) b) = under-ok _ _ _ _ a in
-      let k : to ≤ p + run t (part p n b) = rw span at h in
+      let h : to ≤ p + leadingCount t (part p (to - p) b) = under-ok _ _ _ _ a in
+      let k : to ≤ p + leadingCount t (part p n b) = rw span at h in
       let l = length-part p n b fits in
-      omega (arith, run-le t (part p n b))
+      omega (arith, leading-le t (part p n b))
 
   pub ok-scan : (t : ℕ → Bool) → Every t (part p n b) → stopped c (firstNot t p to b) to ≡ Accepted
   unfolding firstNot
-  ok-scan t a = let l = length-part p n b fits in rw span (ok-under (p + run t (part p n b)) to _ _ (omega arith))
+  ok-scan t a = let l = length-part p n b fits in rw span (ok-under (p + leadingCount t (part p n b)) to _ _ (omega arith))
 
 -- places in another count
 pub shifted-ok : (from : ℕ) (a : Answer) → shifted from a ≡ Accepted → a ≡ Accepted
@@ -130,14 +130,14 @@ pub ok-shifted : (from : ℕ) (a : Answer) → a ≡ Accepted → shifted from a
 unfolding shifted
 ok-shifted from a e = rw e
 
-pub own-ok : (a : Answer) → own a ≡ Accepted → a ≡ Accepted
-unfolding own
-own-ok Accepted e = refl
-own-ok (Refused n p) e = not-accepted n 0 e
+pub zero-place-ok : (a : Answer) → zeroPlace a ≡ Accepted → a ≡ Accepted
+unfolding zeroPlace
+zero-place-ok Accepted e = refl
+zero-place-ok (Refused n p) e = not-accepted n 0 e
 
-pub ok-own : (a : Answer) → a ≡ Accepted → own a ≡ Accepted
-unfolding own
-ok-own a e = rw e
+pub ok-zero-place : (a : Answer) → a ≡ Accepted → zeroPlace a ≡ Accepted
+unfolding zeroPlace
+ok-zero-place a e = rw e
 
 -- what is chosen where a test has another number than 0
 pub refused-or : {A : Type 0} (answer : Answer) (x y : A) → (numberOf answer ≡ 0 → ⊥) → acceptedOr answer x y ≡ y

@@ -10,7 +10,7 @@ use lib.Dec.{eqb}
 use Rattle.answers.specs.declared.Answer.{Answer}
 use Rattle.answers.specs.declared.Answer.the-variants.{Accepted, Refused}
 use Rattle.answers.proofs.Answers.{and-both}
-use Rattle.answers.specs.Answer.{numberOf, when, shifted, own, _then_, Refusing, among, Among}
+use Rattle.answers.specs.Answer.{numberOf, when, shifted, zeroPlace, _then_, Refusing, among, Among}
 
 module _ (P : ℕ → ℕ → Type 0) where
   pub then-refusing : (a b : Answer) → Refusing P a → Refusing P b → Refusing P (a then b)
@@ -36,10 +36,10 @@ module _ (P : ℕ → Type 0) where
   shifted-refusing from Accepted h = tt
   shifted-refusing from (Refused n p) h = h
 
-  pub own-refusing : (a : Answer) → Refusing (λ n p. P n) a → Refusing (λ n p. P n) (own a)
-  unfolding own
-  own-refusing Accepted h = tt
-  own-refusing (Refused n p) h = h
+  pub zero-place-refusing : (a : Answer) → Refusing (λ n p. P n) a → Refusing (λ n p. P n) (zeroPlace a)
+  unfolding zeroPlace
+  zero-place-refusing Accepted h = tt
+  zero-place-refusing (Refused n p) h = h
 
 -- every number of the first list is in the second
 abbrev pub within : List ℕ → List ℕ → Bool

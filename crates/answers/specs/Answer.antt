@@ -38,9 +38,9 @@ shifted from Accepted = Accepted
 shifted from (Refused number place) = Refused number (from + place)
 
 -- "A writer's refusals of its own input have place 0"
-unfoldable pub own : Answer → Answer
-own Accepted = Accepted
-own (Refused number place) = Refused number 0
+unfoldable pub zeroPlace : Answer → Answer
+zeroPlace Accepted = Accepted
+zeroPlace (Refused number place) = Refused number 0
 
 -- the first where a test accepts, else the second
 unfoldable pub acceptedOr : {A : Type 0} → Answer → A → A → A

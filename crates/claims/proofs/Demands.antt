@@ -14,7 +14,7 @@ use mathlib.Core.Bool.{false}
 use mathlib.Core.Logic.{_↔_}
 use mathlib.Core.List.{List, [], _++_}
 use lib.ListN.{length, take, drop}
-use Rattle.octets.specs.Parts.{putAt, settled}
+use Rattle.octets.specs.Parts.{putAt, filledFront}
 use Rattle.octets.specs.Numbers.{Bytes, bytesOf}
 use Rattle.octets.proofs.AllBytes.{bytes-part}
 use Rattle.answers.specs.declared.Answer.{Answer}
@@ -35,16 +35,16 @@ use Rattle.sff_format.specs.Writing.{writeEach}
 use Rattle.sff_format.proofs.Format.{accepted, one-file}
 use Rattle.sff_format.proofs.Refusals.{file-zero}
 use Rattle.sff_format.proofs.Rewritten.{written-back, written-again}
-use Rattle.sff_correction.specs.Correction.{Correction}
-use Rattle.sff_correction.specs.RecordLayout.{parseRecord}
-use Rattle.sff_correction.specs.Edit.{instead, edited}
-use Rattle.sff_correction.specs.InOrder.{reasonsAgainst}
-use Rattle.sff_correction.specs.Correct.{correctOutcome, correctBuffer}
-use Rattle.sff_correction.specs.ListRun.{recordAt, firstRecords, Run, ran, runList}
-use Rattle.sff_correction.specs.ListModel.{correctionAt, fileAfter, reasonsInTurn, listAfresh}
-use Rattle.sff_correction.proofs.Answered.{first-answered, carried-exactly, refused-left, carried-left, carried-valid, carried-kept, corrected-written}
-use Rattle.sff_correction.proofs.ListClaim.{every-list}
-use Rattle.sff_correction.proofs.InTurn.{count-most, none-of-carried, some-of-refused, first-of-refused, all-carried, on-in-turn, stop-in-turn, reasons-in-turn, bytes-in-turn, valid-in-turn, list-file, header-kept}
+use Rattle.correction_format.specs.Correction.{Correction}
+use Rattle.correction_format.specs.RecordLayout.{parseRecord}
+use Rattle.correction_format.specs.Edit.{replacement, edited}
+use Rattle.correction_format.specs.InOrder.{reasonsAgainst}
+use Rattle.correction_format.specs.Correct.{correctOutcome, correctBuffer}
+use Rattle.correction_format.specs.ListRun.{recordAt, firstRecords, Run, ran, runList}
+use Rattle.correction_format.specs.ListModel.{correctionAt, fileAfter, reasonsInTurn, listAfresh}
+use Rattle.correction_format.proofs.Answered.{first-answered, carried-exactly, refused-left, carried-left, carried-valid, carried-kept, corrected-written}
+use Rattle.correction_format.proofs.ListClaim.{every-list}
+use Rattle.correction_format.proofs.InTurn.{count-most, none-of-carried, some-of-refused, first-of-refused, all-carried, on-in-turn, stop-in-turn, reasons-in-turn, bytes-in-turn, valid-in-turn, list-file, header-kept}
 use Rattle.filter_format.specs.Undo.{making, undoLayer}
 use Rattle.filter_format.specs.Encode.{encode}
 use Rattle.filter_format.specs.Rules.{EncodedByRule, DeltaOf}
@@ -53,7 +53,7 @@ use Rattle.filter_format.proofs.Layers.{undo-after-encode}
 use Rattle.filter_format.proofs.Sampled.{undo-after-encode-samples}
 use Rattle.filter_format.proofs.ByRule.{encoded-by-rule, samples-by-rule}
 use Rattle.filter_format.proofs.Refusals.{encode-zero, encode-samples-zero}
-use Rattle.claims.specs.Calls.{Call, Row, row, documentNumbers}
+use Rattle.claims.specs.Calls.{Call, CallRow, row, documentNumbers}
 use Rattle.claims.specs.Marked.{All, table}
 use Rattle.claims.proofs.Rows.{row-numbers, row-refused, none-is-zero}
 use Rattle.claims.proofs.MarkedCases.{marked}
@@ -74,10 +74,10 @@ use Rattle.claims.proofs.MarkedCases.{marked}
 --   - a call that answers a number which document 01 does not name for it (sff_find/another_number,
 --     sff_format/number_of_its_own)
 --   - a refusal with the number 0 (sff_format/refusal_with_0)
-pub record Answers (entry : Row) : Type 0 where
+pub record Answers (entry : CallRow) : Type 0 where
   pub listed : Among documentNumbers (entry .answer)
   -- it is one that document 01 names for this call
-  pub own : Among (entry .numbers) (entry .answer)
+  pub named : Among (entry .numbers) (entry .answer)
   -- and 0 is acceptance's alone
   pub zero : (numberOf (entry .answer) ≡ 0) ↔ (entry .answer ≡ Accepted)
 
@@ -87,7 +87,7 @@ each-answers call =
     let listed = more-numbers (row call .numbers) documentNumbers (n .1) (row call .answer) (n .0) in
     record {
       listed = listed;
-      own = n .0;
+      named = n .0;
       zero = (zero-accepted documentNumbers none-is-zero (row call .answer) listed, ap numberOf);
     }
 
@@ -95,8 +95,8 @@ each-answers call =
 -- The length that is answered then is "the length given".
 -- Code: `sff_corrector::correct`, and `service::sffstore_correct` over it.
 -- Shuts out:
---   - a corrector that writes though it refuses (sff_correction/written_though_refused)
---   - a corrector that answers another length when it refuses (sff_correction/refused_length_is_0)
+--   - a corrector that writes though it refuses (correction_format/written_though_refused)
+--   - a corrector that answers another length when it refuses (correction_format/refused_length_is_0)
 pub refused-unchanged : (buffer : List ℕ) (len : ℕ) («record» : List ℕ)
     → (numberOf (correctOutcome buffer len «record» .answer) ≡ 0 → ⊥)
     → (correctOutcome buffer len «record» .length ≡ len) × (correctBuffer buffer len «record» ≡ buffer)
@@ -107,11 +107,12 @@ refused-unchanged = refused-left
 -- of the table. A new file, an append, an encoding and SCF samples change nothing; a list leaves what its records
 -- before the refused one left; undoing zeroes both buffers. A text that does not fit changes nothing either, or, where
 -- it is put into an undo's buffers, leaves both zero.
--- Code: `sff_writer::new_file`, `append`; `sff_corrector::correct`, `correct_list`; `filters::undo`, `undo_layer`;
--- `filter_encode::encode`; `scf_samples::encode_samples`, `undo_samples`; `listing::list`, `print`; `report::report`,
--- `too_long`; `unfiltering::print`; `service::sffstore_correct`.
+-- Code: `sff_writer::new_file`, `append`; `sff_corrector::correct`, `correct_list`; `filter_undo::undo`, `undo_layer`;
+-- `filter_encode::encode`; `scf_samples::encode_samples`, `undo_samples`; `lister_text::list`, `print`;
+-- `correct_text::report`, `too_long`; `unfilter_text::print`; `service::sffstore_correct`.
 -- Shuts out:
---   - a refused undo that leaves a buffer as it was (filters/second_not_zeroed, claims/refused_undo_leaves_the_second)
+--   - a refused undo that leaves a buffer as it was (filter_undo/second_not_zeroed,
+--     claims/refused_undo_leaves_the_second)
 --   - a list that takes back what its earlier records did (claims/refused_list_changes_nothing)
 --   - a text that is put though it is refused (text/put_though_refused)
 pub memory-after-refusal : (call : Call) → (numberOf (row call .answer) ≡ 0 → ⊥)
@@ -122,11 +123,12 @@ memory-after-refusal = row-refused
 
 -- "A file is accepted exactly if it keeps the SFF rules as document 01 narrows them."
 -- It is accepted exactly if its bytes are some file that keeps them (`Valid`), written afresh (`layout`).
--- Code: `sff::file_test`, and `service::sffstore_test` over it.
+-- Code: `sff_file::file_test`, and `service::sffstore_test` over it.
 -- Shuts out:
---   - a test that refuses everything (sff/refuses_everything)
---   - a test that accepts everything (sff/accepts_everything); with the item before, any that always answers the same
---   - a test that accepts bytes left over (sff/leftover_bytes)
+--   - a test that refuses everything (sff_file/refuses_everything)
+--   - a test that accepts everything (sff_file/accepts_everything); with the item before, any that always answers the
+--     same
+--   - a test that accepts bytes left over (sff_file/leftover_bytes)
 --   - a test that accepts any padding (sff_header/padding_not_tested)
 --   - a test that accepts a base that is not the flow's (sff_walk/any_base)
 pub accepted-exactly : (file : List ℕ) → (Bytes file × (numberOf (fileTest file) ≡ 0)) ↔ IsFile file
@@ -172,7 +174,7 @@ pub read-and-written-again : (file : List ℕ) → Bytes file → fileTest file 
 read-and-written-again = written-again
 
 -- "Each sample filter undoes its own encoding as the ZTR and SCF rules define it."
--- Code: `filter_encode::encode`, `filters::undo_layer`; `scf_samples::encode_samples` and `undo_samples`.
+-- Code: `filter_encode::encode`, `filter_undo::undo_layer`; `scf_samples::encode_samples` and `undo_samples`.
 -- Shuts out:
 --   - formats 70 and 71 with -128 in one byte (filter_narrow/minus_128_in_one_byte,
 --     filter_format/minus_128_in_one_byte)
@@ -219,10 +221,10 @@ each-filter = record {
 -- that with the correction carried out.
 -- Code: `sff_corrector::correct`, and `service::sffstore_correct` over it.
 -- Shuts out:
---   - a corrector that writes nothing (sff_edit/writes_nothing, sff_correction/writes_nothing)
+--   - a corrector that writes nothing (sff_edit/writes_nothing, correction_format/writes_nothing)
 --   - a corrector that refuses everything (sff_corrector/refuses_everything)
---   - a corrector that compares the position and not the name (sff_correction/position_alone)
---   - a corrector that tests the reasons in another order (sff_correction/index_before_name)
+--   - a corrector that compares the position and not the name (correction_format/position_alone)
+--   - a corrector that tests the reasons in another order (correction_format/index_before_name)
 --   - a corrector that overwrites reads not yet moved (splice/low_end_first)
 --   - a corrector that does not zero the freed bytes (splice/freed_bytes_left)
 --   - a corrector that still counts a removed read (sff_edit/count_not_lowered)
@@ -241,13 +243,13 @@ pub record OneRecordOn (buffer : List ℕ) (len : ℕ) («record» : List ℕ)
   -- longer of both lengths, and the rest of the buffer as it was
   pub afresh : numberOf (correctOutcome buffer len «record» .answer) ≡ 0
       → (correctOutcome buffer len «record» .length ≡ length (layout new))
-      × (correctBuffer buffer len «record» ≡ settled (layout new) (max len (length (layout new))) buffer)
+      × (correctBuffer buffer len «record» ≡ filledFront (layout new) (max len (length (layout new))) buffer)
   -- "from the same header, any index, and the same reads with that one read changed or left out."
   pub same-header : (new .flow-characters ≡ content .flow-characters) × (new .key ≡ content .key)
       × (new .index ≡ content .index)
   pub same-reads : new .reads
       ≡ take (correction .position) (content .reads)
-      ++ instead (correction .change) (readAt content (correction .position))
+      ++ replacement (correction .change) (readAt content (correction .position))
       ++ drop (suc (correction .position)) (content .reads)
   -- "Every other read's sections keep their bytes and their order.": so does all that stands before that read and after
   -- it, but for the count at 20
@@ -256,7 +258,7 @@ pub record OneRecordOn (buffer : List ℕ) (len : ℕ) («record» : List ℕ)
       ≡ putAt 20 (bytesOf 4 (length (new .reads)))
       (
       take (readPlace (take len buffer) (correction .position)) (take len buffer)
-      ++ (layoutReads (instead (correction .change) (readAt content (correction .position)))
+      ++ (layoutReads (replacement (correction .change) (readAt content (correction .position)))
       ++ drop (readPlace (take len buffer) (correction .position) + length (layoutRead (readAt content (correction .position))))
       (take len buffer))
       )
@@ -308,10 +310,10 @@ in-place-is-afresh = corrected-written
 -- records leaves.
 -- Code: `sff_corrector::correct_list`.
 -- Shuts out:
---   - a list run that does its first record only (sff_corrector/first_record_only, sff_correction/first_record_only)
---   - a list run with an invented count (sff_corrector/invented_count, sff_correction/invented_count)
---   - a list run that judges each record on the file, or its length, at the start (sff_correction/file_of_the_start,
---     sff_correction/length_of_the_start)
+--   - a list run that does its first record only (sff_corrector/first_record_only, correction_format/first_record_only)
+--   - a list run with an invented count (sff_corrector/invented_count, correction_format/invented_count)
+--   - a list run that judges each record on the file, or its length, at the start (correction_format/file_of_the_start,
+--     correction_format/length_of_the_start)
 --   - a list run that looks for a read from a place where no read starts (sff_corrector/mark_elsewhere)
 pub record WholeList (buffer : List ℕ) (len : ℕ) (list : List ℕ)
     (content : File) (all count : ℕ) (before : ℕ → Run) : Type 0 where

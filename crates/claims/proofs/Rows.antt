@@ -12,17 +12,17 @@ use Rattle.answers.proofs.Answers.{refused-or}
 use Rattle.answers.proofs.Numbered.{within, more-numbers}
 use Rattle.sff_format.specs.Writing.{newTest, newOutcome, newBuffer, appendTest, appendOutcome, appendBuffer}
 use Rattle.sff_format.proofs.Refusals.{header-numbers, file-numbers, view-numbers, step-numbers, position-numbers, signal-numbers, new-numbers, append-numbers}
-use Rattle.sff_correction.proofs.InOrder.{record-numbers}
-use Rattle.sff_correction.proofs.Answered.{outcome-numbers, refused-left}
-use Rattle.sff_correction.proofs.ListClaim.{list-numbers}
-use Rattle.sff_correction.proofs.InTurn.{earlier-left}
+use Rattle.correction_format.proofs.InOrder.{record-numbers}
+use Rattle.correction_format.proofs.Answered.{outcome-numbers, refused-left}
+use Rattle.correction_format.proofs.ListClaim.{list-numbers}
+use Rattle.correction_format.proofs.InTurn.{earlier-left}
 use Rattle.filter_format.specs.Undo.{roomOf, undo, undoLayer}
 use Rattle.filter_format.proofs.Refusals.{undo-numbers, layer-numbers, encode-numbers, encode-samples-numbers, undo-samples-numbers, undo-none, layer-none, encode-none, encode-samples-none, undo-samples-none}
 use Rattle.text.proofs.Fitted.{fitted-numbers, fitted-none}
 use Rattle.lines.specs.Lines.{tooLong}
-use Rattle.listing.specs.Listing.{listing, printed}
-use Rattle.report.specs.Report.{reported}
-use Rattle.unfiltering.specs.Unfiltering.{unfilterText}
+use Rattle.lister_text.specs.Listing.{listing, printed}
+use Rattle.correct_text.specs.Report.{reported}
+use Rattle.unfilter_text.specs.Unfiltering.{unfilterText}
 use Rattle.claims.specs.Calls.{Call, file-test, header-test, flow-characters, key, reader-fresh, reader-step, view-test, view-name, view-values, view-increments, view-bases, view-qualities, view-insert, first-base, last-base, position-test, insert, insert-ends, signal-test, signal, new-file, append, record-test, correct, correct-list, undo-block, undo-layer, encode-layer, encode-samples, undo-samples, list-file, print-listing, report-run, report-too-long, print-block, sffstore-test, sffstore-correct, row, zeros, documentNumbers}
 
 -- one of its own numbers, all of which document 01 has

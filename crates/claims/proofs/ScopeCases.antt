@@ -25,8 +25,8 @@ use Rattle.text.specs.Writing.{orDash}
 use Rattle.text.specs.Decimal.{decimalOf}
 use Rattle.lines.specs.Lines.{numberField, wordField, labelledNumber, labelledWord, headerLine, extent, readLine}
 use Rattle.lines.proofs.Cases.{refusal-9-at-48}
-use Rattle.listing.specs.Listing.{linesFrom, fileLines, printed}
-use Rattle.listing.proofs.Printed.{printed-accepted, printed-refused}
+use Rattle.lister_text.specs.Listing.{linesFrom, fileLines, printed}
+use Rattle.lister_text.proofs.Printed.{printed-accepted, printed-refused}
 use Rattle.claims.specs.Marked.{e, eBytes}
 use Rattle.claims.proofs.MarkedCases.{marked}
 

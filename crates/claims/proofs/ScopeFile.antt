@@ -12,7 +12,7 @@ use Rattle.octets.proofs.Every.{every-left, every-right, every-both, every-at, 
 use Rattle.answers.specs.declared.Answer.the-variants.{Accepted}
 use Rattle.sff_format.specs.Rules.{leftLimit, rightLimit}
 use Rattle.sff_format.specs.Model.{Read, File, layoutRead, layout}
-use Rattle.sff_format.specs.Valid.{ValidRead, Boundary, Valid}
+use Rattle.sff_format.specs.Valid.{ValidRead, IsBoundary, Valid}
 use Rattle.sff_format.specs.HeaderTest.{readCount, flowCharacters}
 use Rattle.sff_format.specs.FileTest.{fileTest}
 use Rattle.sff_format.specs.Parse.{parse}
@@ -130,7 +130,7 @@ pub record FileKeeps (content : File) : Type 0 where
   -- under 8 or not a multiple of 8"
   pub index : GoodIndex (content .index .offset) (length (content .index .bytes))
   -- "Otherwise its bytes, of any content, stand where the offset says, at the end of the header or of a read"
-  pub index-stands : 0 < content .index .offset → Boundary content (content .index .offset)
+  pub index-stands : 0 < content .index .offset → IsBoundary content (content .index .offset)
   -- "flow and key characters are A, C, G, T"
   pub flow-letters : (j : ℕ) → j < length (content .flow-characters) → OneOfFour (getD (content .flow-characters) j 0)
   pub key-letters : (j : ℕ) → j < length (content .key) → OneOfFour (getD (content .key) j 0)

@@ -75,7 +75,7 @@ module _ (room format width start level : ℕ) (follow source : List ℕ) (delta
   other-level-given = level-not-encoded room format width start level follow source delta
 
 -- "An opened layer hands its block to the choice of format, which opens the next layer, eight at most"
--- (`filters::undo`): a layer that encoding made, where some may still be opened, and where none may
+-- (`filter_undo::undo`): a layer that encoding made, where some may still be opened, and where none may
 module _ (room room' format level : ℕ) (follow source : List ℕ) (source-bytes : Bytes source) (follow-bytes : Bytes follow)
     (carried : numberOf (encode room format level follow source .answer) ≡ 0) (fits : length source ≤ room') where
   pub layer-in-chain : (left : ℕ)

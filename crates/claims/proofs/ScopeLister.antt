@@ -1,5 +1,5 @@
 -- Sentences of document 01 on what the lister prints, in its order, as theorems over the definitions
--- (`listing::print`). Text is bytes. Assumes nothing.
+-- (`lister_text::print`). Text is bytes. Assumes nothing.
 use Prim.Native.Nat.{ℕ, _^_, _≤_, _<_}
 use mathlib.Core.Path.{_≡_, ap, _∙_}
 use mathlib.Core.Logic.{_↔_}
@@ -18,8 +18,8 @@ use Rattle.text.proofs.Writing.{dash, word}
 use Rattle.text.proofs.Fitted.{fits, fits-not, longer}
 use Rattle.text.proofs.Decimal.{spelt, spells, OfDigits, decimal-digits}
 use Rattle.lines.proofs.WrittenOut.{header-line, read-line, refusal-line}
-use Rattle.listing.specs.Listing.{fileLines, printed}
-use Rattle.listing.proofs.Printed.{linesOf, lines-together, lines-counted, line-at, printed-accepted, printed-refused, printed-long, printed-most}
+use Rattle.lister_text.specs.Listing.{fileLines, printed}
+use Rattle.lister_text.proofs.Printed.{linesOf, lines-together, lines-counted, line-at, printed-accepted, printed-refused, printed-long, printed-most}
 use Rattle.claims.specs.Marked.{eBytes}
 use Rattle.claims.proofs.ScopeCases.{text-in-E, text-of-clip}
 
@@ -85,7 +85,7 @@ pub text-too-long : (file : List ℕ) → 65536 < length file
     → printed file ≡ 116 ∷ 111 ∷ 111 ∷ 32 ∷ 108 ∷ 111 ∷ 110 ∷ 103 ∷ 10 ∷ []
 text-too-long = printed-long
 
--- the lister's buffer (`listing::print_room`) holds any of these texts, so its answer is 0 throughout
+-- the lister's buffer (`lister_text::print_room`) holds any of these texts, so its answer is 0 throughout
 pub text-fits : (file : List ℕ) → Bytes file
     → fitted 458816 (printed file) ≡ record { answer = Accepted; text = printed file }
 text-fits file y = fits 458816 (printed file) (printed-most file y)

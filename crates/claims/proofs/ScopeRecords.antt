@@ -10,17 +10,17 @@ use Rattle.octets.specs.Numbers.{Bytes}
 use Rattle.answers.specs.declared.Answer.the-variants.{Accepted}
 use Rattle.answers.specs.Rows.{RowByRow}
 use Rattle.sff_format.specs.Model.{File}
-use Rattle.sff_correction.specs.Record.{recordTest}
-use Rattle.sff_correction.specs.Correction.{Correction, ValidCorrection}
-use Rattle.sff_correction.specs.RecordLayout.{layoutRecord, parseRecord}
-use Rattle.sff_correction.specs.Reasons.{hasTarget, otherName, clipAbove, nameBorne, noRoom, reasonRows}
-use Rattle.sff_correction.specs.InOrder.{ownReasons}
-use Rattle.sff_correction.proofs.RecordsLaid.{parsed-valid, parsed-laid, record-taken, laid-parsed}
-use Rattle.sff_correction.proofs.InOrder.{rows-agree}
+use Rattle.correction_format.specs.Record.{recordTest}
+use Rattle.correction_format.specs.Correction.{Correction, ValidCorrection}
+use Rattle.correction_format.specs.RecordLayout.{layoutRecord, parseRecord}
+use Rattle.correction_format.specs.Reasons.{hasTarget, otherName, clipAbove, nameTaken, noRoom, reasonRows}
+use Rattle.correction_format.specs.InOrder.{correctionReasons}
+use Rattle.correction_format.proofs.RecordsLaid.{parsed-valid, parsed-laid, record-taken, laid-parsed}
+use Rattle.correction_format.proofs.InOrder.{rows-agree}
 
 -- A well-formed record says one correction, which keeps the rules and is laid out as that record.
 -- Shuts out:
---   - a record of which one clip is read at another's place (sff_correction/clip_of_another_place)
+--   - a record of which one clip is read at another's place (correction_format/clip_of_another_place)
 pub what-a-record-says : («record» : List ℕ) → Bytes «record» → recordTest «record» ≡ Accepted
     → ValidCorrection (parseRecord «record») × (layoutRecord (parseRecord «record») ≡ «record»)
 what-a-record-says «record» y e = (parsed-valid «record» y e, parsed-laid «record» y e)
@@ -33,18 +33,18 @@ the-record-of correction v = (record-taken correction v, laid-parsed correction 
 -- The correction's own reasons as tests (21, 22, 25, 23, 24, 26, in this order) and in words of the model agree row by
 -- row.
 -- Shuts out:
---   - a test in another's row (sff_correction/index_before_name)
---   - a test that asks for the name of a read that is not there (sff_correction/name_of_no_read)
+--   - a test in another's row (correction_format/index_before_name)
+--   - a test that asks for the name of a read that is not there (correction_format/name_of_no_read)
 pub tests-agree : (room : ℕ) (correction : Correction) (content : File)
-    → RowByRow (reasonRows room correction content) (ownReasons room correction content)
+    → RowByRow (reasonRows room correction content) (correctionReasons room correction content)
 tests-agree = rows-agree
 
 -- Without a read at the position only 21 and 25 can hold: the others speak of that read.
 pub without-a-read : (room : ℕ) (correction : Correction) (content : File)
     → length (content .reads) ≤ correction .position
     → (otherName room correction content ≡ false) × (clipAbove room correction content ≡ false)
-    × (nameBorne room correction content ≡ false) × (noRoom room correction content ≡ false)
-unfolding otherName clipAbove nameBorne noRoom
+    × (nameTaken room correction content ≡ false) × (noRoom room correction content ≡ false)
+unfolding otherName clipAbove nameTaken noRoom
 without-a-read room correction content h =
     let e : hasTarget correction content ≡ false = le-ltb (correction .position) (length (content .reads)) h in
     (rw e, rw e, rw e, rw e)

@@ -18,7 +18,7 @@ use Rattle.sff_format.specs.Valid.{Valid}
 use Rattle.sff_format.specs.HeaderTest.{indexOffset, indexLength, readCount, flowCharacters, headerTest}
 use Rattle.sff_format.specs.FileTest.{fileTest}
 use Rattle.sff_format.specs.Parse.{parse}
-use Rattle.sff_format.specs.Writing.{newOutcome, givenTest, appendTest, appendOutcome, appendBuffer, writeEach, Holder, Lent, AllLent}
+use Rattle.sff_format.specs.Writing.{newOutcome, givenTest, appendTest, appendOutcome, appendBuffer, writeEach, Holder, FitsSlices, AllFitSlices}
 use Rattle.sff_format.proofs.Writers.{write-each, write-exactly}
 use Rattle.sff_format.proofs.Holders.{given-exactly, append-exactly}
 use Rattle.sff_format.proofs.Appends.{append-afresh, append-valid}
@@ -54,7 +54,7 @@ refused-append buffer len read h = refused-or _ _ _ h
 
 -- WRITING. An append that is carried out leaves, at the front of the buffer, the file written afresh with one read
 -- more, which keeps the rules
-pub appended-afresh : (buffer : List ℕ) (len : ℕ) (read : Read) → Bytes buffer → Lent read
+pub appended-afresh : (buffer : List ℕ) (len : ℕ) (read : Read) → Bytes buffer → FitsSlices read
     → appendTest buffer len read ≡ Accepted
     → (appendBuffer buffer len read
     ≡ putAt 0 (layout (withReads (parse (take len buffer) .reads ++ (read ∷ [])) (parse (take len buffer)))) buffer)
@@ -65,13 +65,13 @@ appended-afresh buffer len read y t a =
 
 -- a read's own reasons, 30, 5, 6, 9, 10 and 11, hold exactly if no accepted file with these flow characters could
 -- hold it
-pub read-refused-exactly : (file : List ℕ) (read : Read) → Bytes file → fileTest file ≡ Accepted → Lent read
+pub read-refused-exactly : (file : List ℕ) (read : Read) → Bytes file → fileTest file ≡ Accepted → FitsSlices read
     → (givenTest (flowCharacters file) read ≡ Accepted) ↔ Holder (flowCharacters file) read
 read-refused-exactly = given-exactly
 
 -- and so of the whole append, where the file has no index and fewer reads than the count can say, and the buffer has
 -- room
-pub append-refuses-exactly : (buffer : List ℕ) (len : ℕ) (read : Read) → Bytes buffer → Lent read → len ≤ length buffer
+pub append-refuses-exactly : (buffer : List ℕ) (len : ℕ) (read : Read) → Bytes buffer → FitsSlices read → len ≤ length buffer
     → fileTest (take len buffer) ≡ Accepted
     → declared (indexOffset (take len buffer)) (indexLength (take len buffer)) ≡ false
     → readCount (take len buffer) < 4294967295 → len + length (layoutRead read) ≤ length buffer
@@ -92,7 +92,7 @@ pub written-afresh : (content : File) → content .index ≡ noIndex → Valid c
 written-afresh = write-each
 
 -- they are all carried out exactly if the file keeps the rules and the buffer holds it
-pub written-exactly : (content : File) → content .index ≡ noIndex → (buffer : List ℕ) → AllLent (content .reads)
+pub written-exactly : (content : File) → content .index ≡ noIndex → (buffer : List ℕ) → AllFitSlices (content .reads)
     → (numberOf (writeEach buffer content .outcome .answer) ≡ 0)
     ↔ (Valid content × (length (layout content) ≤ length buffer))
 written-exactly content e buffer t = (

@@ -16,24 +16,24 @@ use Rattle.sff_format.specs.Step.{State, stepAnswer, step}
 use Rattle.sff_format.specs.Position.{positionTest, signalTest}
 use Rattle.sff_format.specs.Writing.{newOutcome, newBuffer, appendOutcome, appendBuffer}
 use Rattle.sff_format.specs.Numbers.{headerNumbers, fileNumbers, viewNumbers, stepNumbers, positionNumbers, signalNumbers, newNumbers, appendNumbers}
-use Rattle.sff_correction.specs.declared.ListOutcome.{ListOutcome}
-use Rattle.sff_correction.specs.Record.{recordTest}
-use Rattle.sff_correction.specs.Correct.{correctOutcome, correctBuffer}
-use Rattle.sff_correction.specs.ListRun.{firstRecords, runList}
-use Rattle.sff_correction.specs.Numbers.{recordNumbers, correctNumbers}
+use Rattle.correction_format.specs.declared.ListOutcome.{ListOutcome}
+use Rattle.correction_format.specs.Record.{recordTest}
+use Rattle.correction_format.specs.Correct.{correctOutcome, correctBuffer}
+use Rattle.correction_format.specs.ListRun.{firstRecords, runList}
+use Rattle.correction_format.specs.Numbers.{recordNumbers, correctNumbers}
 use Rattle.filter_format.specs.Undo.{roomOf, undo, undoLayer, firstAfter, secondAfter}
 use Rattle.filter_format.specs.Encode.{encode, outAfter}
 use Rattle.filter_format.specs.Samples.{encodeSamples, undoSamples}
 use Rattle.filter_format.specs.Numbers.{undoNumbers, layerNumbers, encodeNumbers, samplesNumbers}
 use Rattle.text.specs.Writing.{fitted, textNumbers}
 use Rattle.lines.specs.Lines.{tooLong}
-use Rattle.listing.specs.Listing.{listing, printed}
-use Rattle.report.specs.Report.{reported}
-use Rattle.unfiltering.specs.Unfiltering.{printedBy}
+use Rattle.lister_text.specs.Listing.{listing, printed}
+use Rattle.correct_text.specs.Report.{reported}
+use Rattle.unfilter_text.specs.Unfiltering.{printedBy}
 
 -- each as its function takes it; "by" names the companion call that answers for it on the same inputs
 pub data Call : Type 0 where
-  -- `sff::file_test(file)`
+  -- `sff_file::file_test(file)`
   file-test : List ℕ → Call
   -- `sff_header::header_test(file)`
   header-test : List ℕ → Call
@@ -84,9 +84,9 @@ pub data Call : Type 0 where
   correct : List ℕ → ℕ → List ℕ → Call
   -- `sff_corrector::correct_list(buffer, file_length, list)`
   correct-list : List ℕ → ℕ → List ℕ → Call
-  -- `filters::undo(block, first, second)`
+  -- `filter_undo::undo(block, first, second)`
   undo-block : List ℕ → List ℕ → List ℕ → Call
-  -- `filters::undo_layer(block, first, second)`
+  -- `filter_undo::undo_layer(block, first, second)`
   undo-layer : List ℕ → List ℕ → List ℕ → Call
   -- `filter_encode::encode(format, level, follow, source, out)`
   encode-layer : ℕ → ℕ → List ℕ → List ℕ → List ℕ → Call
@@ -94,15 +94,15 @@ pub data Call : Type 0 where
   encode-samples : ℕ → List ℕ → List ℕ → Call
   -- `scf_samples::undo_samples(precision, source, out)`
   undo-samples : ℕ → List ℕ → List ℕ → Call
-  -- `listing::list(file, out)`
+  -- `lister_text::list(file, out)`
   list-file : List ℕ → List ℕ → Call
-  -- `listing::print(input, out)`
+  -- `lister_text::print(input, out)`
   print-listing : List ℕ → List ℕ → Call
-  -- `report::report(outcome, out)`
+  -- `correct_text::report(outcome, out)`
   report-run : ListOutcome → List ℕ → Call
-  -- `report::too_long(out)`
+  -- `correct_text::too_long(out)`
   report-too-long : List ℕ → Call
-  -- `unfiltering::print(input, first, second)`
+  -- `unfilter_text::print(input, first, second)`
   print-block : List ℕ → List ℕ → List ℕ → Call
   -- `service::sffstore_test(file)`
   sffstore-test : List ℕ → Call
@@ -111,28 +111,28 @@ pub data Call : Type 0 where
 
 -- a row: the answer; the numbers that it may have beside 0; what each buffer that is lent to be written holds
 -- afterwards, and what it is to hold after a refusal
-pub record Row : Type 0 where
+pub record CallRow : Type 0 where
   pub answer : Answer
   pub numbers : List ℕ
   pub memory : List (List ℕ)
   pub if-refused : List (List ℕ)
 
 -- a call that writes nothing
-abbrev pub reading : Answer → List ℕ → Row
+abbrev pub reading : Answer → List ℕ → CallRow
 reading answer numbers = record { answer = answer; numbers = numbers; memory = []; if-refused = [] }
 
 -- one that writes to one buffer, and nothing if it refuses
-abbrev pub writing : Answer → List ℕ → List ℕ → List ℕ → Row
+abbrev pub writing : Answer → List ℕ → List ℕ → List ℕ → CallRow
 writing answer numbers after buffer = record { answer = answer; numbers = numbers; memory = after ∷ []; if-refused = buffer ∷ [] }
 
 -- one that puts a text at the front of a buffer, if it fits
-abbrev pub putting : List ℕ → List ℕ → Row
+abbrev pub putting : List ℕ → List ℕ → CallRow
 putting text out = writing (fitted (length out) text .answer) textNumbers (putAt 0 (fitted (length out) text .text) out) out
 
 abbrev pub zeros : List ℕ → List ℕ
 zeros buffer = replicate (length buffer) 0
 
-abbrev pub row : Call → Row
+abbrev pub row : Call → CallRow
 row (file-test file) = reading (fileTest file) fileNumbers
 row (header-test file) = reading (headerTest file) headerNumbers
 row (flow-characters file) = reading (headerTest file) headerNumbers

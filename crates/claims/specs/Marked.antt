@@ -10,9 +10,9 @@ use Rattle.sff_format.specs.declared.Outcome.{Outcome}
 use Rattle.sff_format.specs.Model.{File, noIndex, layout}
 use Rattle.sff_format.specs.FileTest.{fileTest}
 use Rattle.sff_format.specs.Position.{fileInsert, fileFirst, fileLast}
-use Rattle.sff_correction.specs.Correction.{Change, rename, remove}
-use Rattle.sff_correction.specs.RecordLayout.{layoutRecord}
-use Rattle.sff_correction.specs.Correct.{correctOutcome, correctBuffer}
+use Rattle.correction_format.specs.Correction.{Change, rename, remove}
+use Rattle.correction_format.specs.RecordLayout.{layoutRecord}
+use Rattle.correction_format.specs.Correct.{correctOutcome, correctBuffer}
 use Rattle.filter_format.specs.Undo.{making, undoLayer}
 use Rattle.filter_format.specs.Encode.{encode}
 

@@ -1,11 +1,11 @@
 // correct FILE RECORDS NEW-FILE: runs a list of correction records on a file of at most 65,536 bytes, writes the
 // corrected file under a new name and prints the answer.
+use correction_format::ListOutcome;
 use libc::STDERR_FILENO;
 use loading::Loaded;
 use loading::load_argument;
-use octets::stretch;
+use octets::whole_part;
 use printing::print_text;
-use sff_correction::ListOutcome;
 
 // Writes a file under the name that an argument gives, which no file may have yet, and answers whether it is there.
 fn save(i: usize, bytes: &[u8]) -> bool {
@@ -28,13 +28,13 @@ fn save(i: usize, bytes: &[u8]) -> bool {
 // Prints the answer of a run, once the new file that it asks for is there: no answer is printed of a file that could
 // not be written.
 fn deliver(outcome: ListOutcome, buffer: &[u8]) {
-    if report::is_written(outcome) {
-        if !save(3, stretch(buffer, 0, outcome.length)) {
+    if correct_text::is_written(outcome) {
+        if !save(3, whole_part(buffer, 0, outcome.length)) {
             return;
         }
     }
-    let mut text = report::report_room();
-    let written = report::report(outcome, &mut text);
+    let mut text = correct_text::report_room();
+    let written = correct_text::report(outcome, &mut text);
     print_text(written, &text);
 }
 
@@ -49,7 +49,7 @@ fn correct() {
     let Loaded::Bytes(m) = records else {
         return;
     };
-    let outcome = sff_corrector::correct_list(&mut buffer, n, stretch(&list, 0, m));
+    let outcome = sff_corrector::correct_list(&mut buffer, n, whole_part(&list, 0, m));
     deliver(outcome, &buffer);
 }
 

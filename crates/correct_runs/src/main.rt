@@ -1,11 +1,11 @@
 // What `correct` prints for each file and list that the arguments name in pairs, and the listing of the new file: many
 // stored runs in one.
+use correction_format::ListOutcome;
 use libc::STDOUT_FILENO;
 use loading::Loaded;
 use loading::load_argument;
-use octets::stretch;
+use octets::whole_part;
 use printing::print_text;
-use sff_correction::ListOutcome;
 
 fn print_argument(i: usize, end: &[u8]) {
     let mut word = io::buffer();
@@ -16,12 +16,12 @@ fn print_argument(i: usize, end: &[u8]) {
 
 // Prints the answer, and the listing of the file that `correct` would write.
 fn print_outcome(outcome: ListOutcome, buffer: &[u8]) {
-    let mut text = report::report_room();
-    let written = report::report(outcome, &mut text);
+    let mut text = correct_text::report_room();
+    let written = correct_text::report(outcome, &mut text);
     print_text(written, &text);
-    if report::is_written(outcome) {
-        let mut lines = listing::print_room();
-        let listed = listing::print(stretch(buffer, 0, outcome.length), &mut lines);
+    if correct_text::is_written(outcome) {
+        let mut lines = lister_text::print_room();
+        let listed = lister_text::print(whole_part(buffer, 0, outcome.length), &mut lines);
         print_text(listed, &lines);
     }
 }
@@ -39,7 +39,7 @@ fn correct(file: usize, records: usize) {
     let Loaded::Bytes(m) = listed else {
         return;
     };
-    let outcome = sff_corrector::correct_list(&mut buffer, n, stretch(&list, 0, m));
+    let outcome = sff_corrector::correct_list(&mut buffer, n, whole_part(&list, 0, m));
     print_outcome(outcome, &buffer);
 }
 

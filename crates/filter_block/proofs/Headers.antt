@@ -8,7 +8,7 @@ use lib.Dec.{eqb}
 use lib.ListN.{length, getD}
 use Rattle.filter_format.specs.declared.Filter.{Filter}
 use Rattle.filter_format.specs.declared.Filter.the-variants.{Delta}
-use Rattle.filter_format.specs.Block.{Known, headerLength}
+use Rattle.filter_format.specs.Block.{HasUnitWidth, headerLength}
 
 pub first-none : (b : List ℕ) → length b ≡ 0 → 0 ≡ getD b 0 0
 first-none [] e = refl
@@ -27,8 +27,8 @@ pub level-in : (w : ℕ) (b : List ℕ) → headerLength (Delta w) ≤ length b 
 level-in w b h = let k = delta-start w (headerLength (Delta w)) refl in omega arith
 
 -- what is known of a filter, of the case that it is
-pub told : (f g : Filter) (b : List ℕ) → f ≡ g → (Known f) × (headerLength f ≤ length b) → (Known g) × (headerLength g ≤ length b)
-told f g b e h = subst (λ (x : Filter). (Known x) × (headerLength x ≤ length b)) e h
+pub told : (f g : Filter) (b : List ℕ) → f ≡ g → (HasUnitWidth f) × (headerLength f ≤ length b) → (HasUnitWidth g) × (headerLength g ≤ length b)
+told f g b e h = subst (λ (x : Filter). (HasUnitWidth x) × (headerLength x ≤ length b)) e h
 
 pub told-fits : (f g : Filter) (b : List ℕ) → f ≡ g → headerLength f ≤ length b → headerLength g ≤ length b
 told-fits f g b e h = subst (λ (x : Filter). headerLength x ≤ length b) e h

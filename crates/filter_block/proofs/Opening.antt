@@ -14,7 +14,7 @@ use Rattle.filter_format.specs.Narrow.{widen, lacking}
 use Rattle.filter_format.specs.Follow.{unfollowed}
 use Rattle.filter_format.specs.Block.{headerLength, levelAt, followAt, dataAt, decoded, undone}
 use Rattle.filter_format.proofs.Blocks.{whole-data, none-lacking, length-delta-undone, length-follow-undone}
-use Rattle.filter_block.specs.Tests.{Opens}
+use Rattle.filter_block.specs.Tests.{Undoable}
 use Rattle.filter_block.proofs.Tests.{part-end}
 
 -- what was put, as the promise says it
@@ -25,8 +25,8 @@ put-as : (f : Filter) (b xs out out' : List ℕ) (r : ℕ) → undone f b ≡ xs
 put-as f b xs out out' r e l h = rw e (l, h)
 
 -- the case that a filter is
-pub opens : (f g : Filter) (b : List ℕ) (room : ℕ) → f ≡ g → Opens f b room → Opens g b room
-opens f g b room e o = subst (λ (x : Filter). Opens x b room) e o
+pub undoable : (f g : Filter) (b : List ℕ) (room : ℕ) → f ≡ g → Undoable f b room → Undoable g b room
+undoable f g b room e o = subst (λ (x : Filter). Undoable x b room) e o
 
 pub put-of : (f g : Filter) (b : List ℕ) (r : ℕ) (out out' : List ℕ) → f ≡ g → Put g b r out out' → Put f b r out out'
 put-of f g b r out out' e p = subst (λ (x : Filter). Put x b r out out') (sym e) p
@@ -37,7 +37,7 @@ put-other f b out e = rw e (refl, sym (put-nil 0 out))
 
 module _ (b out : List ℕ) where
   -- format 0
-  module _ (o : Opens Raw b (length out)) where
+  module _ (o : Undoable Raw b (length out)) where
     raw-is : undone Raw b ≡ drop 1 b
     unfolding undone decoded headerLength
     raw-is = refl
@@ -52,7 +52,7 @@ module _ (b out : List ℕ) where
         put-as Raw b (drop 1 b) out out' (length b - 1) raw-is (sym (length-drop 1 b)) put
 
   -- formats 64, 65 and 66
-  module _ (w start : ℕ) (o : Opens (Delta w) b (length out)) (e : start ≡ headerLength (Delta w)) where
+  module _ (w start : ℕ) (o : Undoable (Delta w) b (length out)) (e : start ≡ headerLength (Delta w)) where
     abbrev s : List ℕ
     s = part start (length b - start) b
 
@@ -81,7 +81,7 @@ module _ (b out : List ℕ) where
         (sym (n ∙ d), h ∙ ap (λ (t : List ℕ). putAt 0 t out) (sym xs))
 
   -- formats 70 and 71
-  module _ (w : ℕ) (o : Opens (Narrow w) b (length out)) where
+  module _ (w : ℕ) (o : Undoable (Narrow w) b (length out)) where
     -- the bytes behind the format byte
     abbrev behind : List ℕ
     behind = part 1 (length b - 1) b
@@ -103,7 +103,7 @@ module _ (b out : List ℕ) where
     narrow-put r out' l h = put-as (Narrow w) b (widen w 0 behind) out out' r narrow-is l h
 
   -- format 72
-  module _ (o : Opens Follow b (length out)) where
+  module _ (o : Undoable Follow b (length out)) where
     follow-is : undone Follow b ≡ unfollowed (part 1 256 b) (part 257 (length b - 257) b)
     unfolding undone decoded headerLength
     follow-is = ap (unfollowed (followAt b)) (sym (part-end 257 b))

@@ -9,7 +9,7 @@ use lib.Dec.{ltb}
 use Rattle.answers.specs.declared.Answer.{Answer}
 use Rattle.answers.specs.Answer.{when, _then_}
 use Rattle.filter_format.specs.declared.Filter.{Filter}
-use Rattle.filter_format.specs.Block.{Known, headerLength, dataAt, badData, undone}
+use Rattle.filter_format.specs.Block.{HasUnitWidth, headerLength, dataAt, badData, undone}
 
 -- the tests of the data and of the room, the end of `contentsTest`
 unfoldable pub dataTest : Filter → ℕ → List ℕ → Answer
@@ -18,7 +18,7 @@ dataTest filter room block =
     then when (ltb room (length (undone filter block))) 26 0
 
 -- what undoing the filter of a block asks, and the tests give: the block is right, and its result has room
-abbrev pub Opens : Filter → List ℕ → ℕ → Type 0
-Opens filter block room =
-    (Known filter) × (headerLength filter ≤ length block) × (badData filter (dataAt filter block) ≡ false)
+abbrev pub Undoable : Filter → List ℕ → ℕ → Type 0
+Undoable filter block room =
+    (HasUnitWidth filter) × (headerLength filter ≤ length block) × (badData filter (dataAt filter block) ≡ false)
     × (length (undone filter block) ≤ room)

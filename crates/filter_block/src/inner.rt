@@ -7,12 +7,12 @@ ghost use lib.ListN.{length};
 ghost use Rattle.answers.specs.Answer.{when};
 ghost use Rattle.filter_format.specs.declared.Filter.the-variants.{Raw, Delta, Narrow, Follow};
 ghost use Rattle.filter_format.specs.Units.{IsWidth};
-ghost use Rattle.filter_format.specs.Block.{filterOf, Known, filterAt, isRaw, isFilter, headerLength, badLevel, badHeader, undone, contentsTest};
-ghost use Rattle.filter_block.specs.Tests.{dataTest, Opens};
+ghost use Rattle.filter_format.specs.Block.{filterOf, HasUnitWidth, filterAt, isRaw, isFilter, headerLength, badLevel, badHeader, undone, contentsTest};
+ghost use Rattle.filter_block.specs.Tests.{dataTest, Undoable};
 ghost use Rattle.octets.specs.Parts.{putAt};
 use answers::Answer;
 use buffers::inner::copy;
-use filter_delta::inner::put_undone;
+use filter_delta::inner::put_undelta;
 use filter_follow::inner::put_unfollowed;
 use filter_format::Filter;
 use filter_narrow::Counted;
@@ -65,8 +65,8 @@ pub fn is_raw(filter: Filter) -> bool
 {
     match filter {
         Filter::Raw => true,
-        Filter::Delta(w) => false,
-        Filter::Narrow(w) => false,
+        Filter::Delta(width) => false,
+        Filter::Narrow(width) => false,
         Filter::Follow => false,
         Filter::Other => false,
     }
@@ -77,8 +77,8 @@ pub fn is_filter(filter: Filter) -> bool
 {
     match filter {
         Filter::Raw => false,
-        Filter::Delta(w) => true,
-        Filter::Narrow(w) => true,
+        Filter::Delta(width) => true,
+        Filter::Narrow(width) => true,
         Filter::Follow => true,
         Filter::Other => false,
     }
@@ -90,8 +90,8 @@ pub fn header_length(filter: Filter) -> usize
 {
     match filter {
         Filter::Raw => 1,
-        Filter::Delta(w) => if w == 4 { 4 } else { 2 },
-        Filter::Narrow(w) => 1,
+        Filter::Delta(width) => if width == 4 { 4 } else { 2 },
+        Filter::Narrow(width) => 1,
         Filter::Follow => 257,
         Filter::Other => 1,
     }
@@ -104,11 +104,11 @@ pub fn bad_level(level: usize) -> bool
 }
 
 // Whether the level or the zeros behind it are wrong.
-fn bad_delta_header(block: &[u8], w: usize) -> bool
-    requires { ⌜ headerLength (Delta w) ≤ length (now block) ⌝ }
-    ensures { λ r. ⌜ r ≡ badHeader (Delta w) (now (block .entry)) ⌝ }
+fn bad_delta_header(block: &[u8], width: usize) -> bool
+    requires { ⌜ headerLength (Delta width) ≤ length (now block) ⌝ }
+    ensures { λ r. ⌜ r ≡ badHeader (Delta width) (now (block .entry)) ⌝ }
 {
-    let start = header_length(Filter::Delta(w));
+    let start = header_length(Filter::Delta(width));
     bad_level(wide(block[1])) | (first_not(ByteTest::Zero, block, 2, start) < start)
 }
 
@@ -118,8 +118,8 @@ fn bad_header(filter: Filter, block: &[u8]) -> bool
 {
     match filter {
         Filter::Raw => false,
-        Filter::Delta(w) => bad_delta_header(block, w),
-        Filter::Narrow(w) => false,
+        Filter::Delta(width) => bad_delta_header(block, width),
+        Filter::Narrow(width) => false,
         Filter::Follow => false,
         Filter::Other => false,
     }
@@ -134,34 +134,34 @@ fn room_test(n: usize, room: usize) -> Answer
     Answer::Accepted
 }
 
-fn delta_test(block: &[u8], w: usize, room: usize) -> Answer
-    requires { ⌜ (IsWidth w) × (headerLength (Delta w) ≤ length (now block)) ⌝ }
-    ensures { λ r. ⌜ r ≡ dataTest (Delta w) room (now (block .entry)) ⌝ }
+fn delta_test(block: &[u8], width: usize, room: usize) -> Answer
+    requires { ⌜ (IsWidth width) × (headerLength (Delta width) ≤ length (now block)) ⌝ }
+    ensures { λ r. ⌜ r ≡ dataTest (Delta width) room (now (block .entry)) ⌝ }
 {
-    let n = block.len() - header_length(Filter::Delta(w));
-    if n % w != 0 {
+    let n = block.len() - header_length(Filter::Delta(width));
+    if n % width != 0 {
         return Answer::Refused(43, 0);
     }
     room_test(n, room)
 }
 
 // The units are counted, not their bytes, whose number could exceed 64 bits.
-fn narrow_test(block: &[u8], w: usize, room: usize) -> Answer
-    requires { ⌜ (IsWidth w) × (1 ≤ length (now block)) ⌝ }
-    ensures { λ r. ⌜ r ≡ dataTest (Narrow w) room (now (block .entry)) ⌝ }
+fn narrow_test(block: &[u8], width: usize, room: usize) -> Answer
+    requires { ⌜ (IsWidth width) × (1 ≤ length (now block)) ⌝ }
+    ensures { λ r. ⌜ r ≡ dataTest (Narrow width) room (now (block .entry)) ⌝ }
 {
-    let counted = count_units(&block[1..], w);
+    let counted = count_units(&block[1..], width);
     match counted {
         Counted::Lacking => Answer::Refused(43, 0),
-        Counted::Units(n) => unit_test(n, w, room),
+        Counted::Units(n) => units_room_test(n, width, room),
     }
 }
 
-fn unit_test(n: usize, w: usize, room: usize) -> Answer
-    requires { ⌜ 0 < w ⌝ }
-    ensures { λ r. ⌜ r ≡ when (ltb room (n * w)) 26 0 ⌝ }
+fn units_room_test(n: usize, width: usize, room: usize) -> Answer
+    requires { ⌜ 0 < width ⌝ }
+    ensures { λ r. ⌜ r ≡ when (ltb room (n * width)) 26 0 ⌝ }
 {
-    if room / w < n {
+    if room / width < n {
         return Answer::Refused(26, 0);
     }
     Answer::Accepted
@@ -169,13 +169,13 @@ fn unit_test(n: usize, w: usize, room: usize) -> Answer
 
 // The tests of the data and of the room.
 fn data_test(filter: Filter, block: &[u8], room: usize) -> Answer
-    requires { ⌜ (Known filter) × (headerLength filter ≤ length (now block)) ⌝ }
+    requires { ⌜ (HasUnitWidth filter) × (headerLength filter ≤ length (now block)) ⌝ }
     ensures { λ r. ⌜ r ≡ dataTest filter room (now (block .entry)) ⌝ }
 {
     match filter {
         Filter::Raw => room_test(block.len() - 1, room),
-        Filter::Delta(w) => delta_test(block, w, room),
-        Filter::Narrow(w) => narrow_test(block, w, room),
+        Filter::Delta(width) => delta_test(block, width, room),
+        Filter::Narrow(width) => narrow_test(block, width, room),
         Filter::Follow => room_test(block.len() - 257, room),
         Filter::Other => Answer::Accepted,
     }
@@ -183,7 +183,7 @@ fn data_test(filter: Filter, block: &[u8], room: usize) -> Answer
 
 // The tests of a block that has a format byte, from its header on.
 pub fn contents_test(filter: Filter, block: &[u8], room: usize) -> Answer
-    requires { ⌜ Known filter ⌝ }
+    requires { ⌜ HasUnitWidth filter ⌝ }
     ensures { λ r. ⌜ r ≡ contentsTest filter room (now (block .entry)) ⌝ }
 {
     if block.len() < header_length(filter) {
@@ -196,7 +196,7 @@ pub fn contents_test(filter: Filter, block: &[u8], room: usize) -> Answer
 }
 
 fn undo_raw(out: &mut [u8], block: &[u8]) -> usize
-    requires { ⌜ Opens Raw (now block) (length (now out)) ⌝ }
+    requires { ⌜ Undoable Raw (now block) (length (now out)) ⌝ }
     ensures { λ r. ⌜ (r ≡ length (undone Raw (now (block .entry)))) × (now (out .exit) ≡ putAt 0 (undone Raw (now (block .entry))) (now (out .entry))) ⌝ }
 {
     let n = block.len() - 1;
@@ -204,25 +204,25 @@ fn undo_raw(out: &mut [u8], block: &[u8]) -> usize
     n
 }
 
-fn undo_delta(out: &mut [u8], block: &[u8], w: usize) -> usize
-    requires { ⌜ Opens (Delta w) (now block) (length (now out)) ⌝ }
-    ensures { λ r. ⌜ (r ≡ length (undone (Delta w) (now (block .entry)))) × (now (out .exit) ≡ putAt 0 (undone (Delta w) (now (block .entry))) (now (out .entry))) ⌝ }
+fn undo_delta(out: &mut [u8], block: &[u8], width: usize) -> usize
+    requires { ⌜ Undoable (Delta width) (now block) (length (now out)) ⌝ }
+    ensures { λ r. ⌜ (r ≡ length (undone (Delta width) (now (block .entry)))) × (now (out .exit) ≡ putAt 0 (undone (Delta width) (now (block .entry))) (now (out .entry))) ⌝ }
 {
-    let start = header_length(Filter::Delta(w));
+    let start = header_length(Filter::Delta(width));
     let level = wide(block[1]);
-    put_undone(out, 0, &block[start..], w, level);
+    put_undelta(out, 0, &block[start..], width, level);
     block.len() - start
 }
 
-fn undo_narrow(out: &mut [u8], block: &[u8], w: usize) -> usize
-    requires { ⌜ Opens (Narrow w) (now block) (length (now out)) ⌝ }
-    ensures { λ r. ⌜ (r ≡ length (undone (Narrow w) (now (block .entry)))) × (now (out .exit) ≡ putAt 0 (undone (Narrow w) (now (block .entry))) (now (out .entry))) ⌝ }
+fn undo_narrow(out: &mut [u8], block: &[u8], width: usize) -> usize
+    requires { ⌜ Undoable (Narrow width) (now block) (length (now out)) ⌝ }
+    ensures { λ r. ⌜ (r ≡ length (undone (Narrow width) (now (block .entry)))) × (now (out .exit) ≡ putAt 0 (undone (Narrow width) (now (block .entry))) (now (out .entry))) ⌝ }
 {
-    put_widened(out, &block[1..], w)
+    put_widened(out, &block[1..], width)
 }
 
 fn undo_follow(out: &mut [u8], block: &[u8]) -> usize
-    requires { ⌜ Opens Follow (now block) (length (now out)) ⌝ }
+    requires { ⌜ Undoable Follow (now block) (length (now out)) ⌝ }
     ensures { λ r. ⌜ (r ≡ length (undone Follow (now (block .entry)))) × (now (out .exit) ≡ putAt 0 (undone Follow (now (block .entry))) (now (out .entry))) ⌝ }
 {
     put_unfollowed(out, &block[257..], &block[1..257]);
@@ -231,13 +231,13 @@ fn undo_follow(out: &mut [u8], block: &[u8]) -> usize
 
 // A block that passed its tests, its filter undone, at the front of `out`; answers how many bytes that makes.
 pub fn undo_filter(out: &mut [u8], filter: Filter, block: &[u8]) -> usize
-    requires { ⌜ Opens filter (now block) (length (now out)) ⌝ }
+    requires { ⌜ Undoable filter (now block) (length (now out)) ⌝ }
     ensures { λ r. ⌜ (r ≡ length (undone filter (now (block .entry)))) × (now (out .exit) ≡ putAt 0 (undone filter (now (block .entry))) (now (out .entry))) ⌝ }
 {
     match filter {
         Filter::Raw => undo_raw(out, block),
-        Filter::Delta(w) => undo_delta(out, block, w),
-        Filter::Narrow(w) => undo_narrow(out, block, w),
+        Filter::Delta(width) => undo_delta(out, block, width),
+        Filter::Narrow(width) => undo_narrow(out, block, width),
         Filter::Follow => undo_follow(out, block),
         Filter::Other => 0,
     }

@@ -92,42 +92,42 @@ difference-seen m p x v positive d hx e =
     sym (ap (λ (n : ℕ). (n + (m - q)) % m) (sym k') ∙ mod-add-mod (v + q) m (m - q) ∙ ap (λ (n : ℕ). n % m) (omega arith) ∙ add-mod-right v m)
 
 -- the pass that takes a level off remembers the sum, and the one that puts a level on the unit before
-abbrev pub Undoing : ℕ → ℕ → ℕ → ℕ → List ℕ → List ℕ → Type 0
-Undoing w p left at s₀ s = Mid (sum (range w)) (sum (range w)) w p left at s₀ s (undeltaBytes w 1 s₀)
+abbrev pub Summing : ℕ → ℕ → ℕ → ℕ → List ℕ → List ℕ → Type 0
+Summing w p left at s₀ s = Mid (sum (range w)) (sum (range w)) w p left at s₀ s (undeltaBytes w 1 s₀)
 
-abbrev pub Doing : ℕ → ℕ → ℕ → ℕ → List ℕ → List ℕ → Type 0
-Doing w p left at s₀ s = Mid (difference (range w)) latest w p left at s₀ s (deltaBytes w 1 s₀)
+abbrev pub Differencing : ℕ → ℕ → ℕ → ℕ → List ℕ → List ℕ → Type 0
+Differencing w p left at s₀ s = Mid (difference (range w)) latest w p left at s₀ s (deltaBytes w 1 s₀)
 
 module _ (w : ℕ) (s₀ : List ℕ) (width : IsWidth w) (whole : length s₀ % w ≡ 0) where
-  pub undo-start : Undoing w 0 (length s₀ / w) 0 s₀ s₀
+  pub summing-start : Summing w 0 (length s₀ / w) 0 s₀ s₀
   unfolding undeltaBytes undeltas
-  undo-start = start (sum (range w)) (sum (range w)) w s₀ width whole
+  summing-start = start (sum (range w)) (sum (range w)) w s₀ width whole
 
-  pub do-start : Doing w 0 (length s₀ / w) 0 s₀ s₀
+  pub differencing-start : Differencing w 0 (length s₀ / w) 0 s₀ s₀
   unfolding deltaBytes deltas
-  do-start = start (difference (range w)) latest w s₀ width whole
+  differencing-start = start (difference (range w)) latest w s₀ width whole
 
 module _ {w p left at : ℕ} {s₀ s : List ℕ} where
   -- the unit x is read, and v is put
-  pub undo-turn : Undoing w p left at s₀ s → 0 < left → {x v : ℕ} {s' : List ℕ} → x ≡ number w at s → v ≡ (p + x) % 2 ^ 32
-      → s' ≡ putAt at (bytesOf w v) s → Undoing w v (left - 1) (at + w) s₀ s'
-  undo-turn m h {x} {v} {s'} ex ev es =
+  pub summing-turn : Summing w p left at s₀ s → 0 < left → {x v : ℕ} {s' : List ℕ} → x ≡ number w at s → v ≡ (p + x) % 2 ^ 32
+      → s' ≡ putAt at (bytesOf w v) s → Summing w v (left - 1) (at + w) s₀ s'
+  summing-turn m h {x} {v} {s'} ex ev es =
       let seen = sum-seen (range w) p x v (divides w (m .width)) ev in
       turn (sum (range w)) (sum (range w)) w p v left at x v s₀ s s' (undeltaBytes w 1 s₀) m h ex es seen seen
 
-  pub do-turn : Doing w p left at s₀ s → 0 < left → {x : ℕ} (v : ℕ) {s' : List ℕ} → x ≡ number w at s → x < range w → (v + p) % 2 ^ 32 ≡ x
-      → s' ≡ putAt at (bytesOf w v) s → Doing w x (left - 1) (at + w) s₀ s'
-  do-turn m h {x} v {s'} ex hx ev es =
+  pub differencing-turn : Differencing w p left at s₀ s → 0 < left → {x : ℕ} (v : ℕ) {s' : List ℕ} → x ≡ number w at s → x < range w → (v + p) % 2 ^ 32 ≡ x
+      → s' ≡ putAt at (bytesOf w v) s → Differencing w x (left - 1) (at + w) s₀ s'
+  differencing-turn m h {x} v {s'} ex hx ev es =
       let seen = difference-seen (range w) p x v (range-positive w) (divides w (m .width)) hx ev in
       turn (difference (range w)) latest w p x left at x v s₀ s s' (deltaBytes w 1 s₀) m h ex es seen (mod-eq-of-lt hx)
 
-  pub undo-done : Undoing w p left at s₀ s → left ≤ 0 → (s ≡ undeltaBytes w 1 s₀) × OneLevelLess w s₀ s
-  undo-done m h =
+  pub summing-done : Summing w p left at s₀ s → left ≤ 0 → (s ≡ undeltaBytes w 1 s₀) × OneLevelLess w s₀ s
+  summing-done m h =
       let e : s ≡ undeltaBytes w 1 s₀ = done (sum (range w)) (sum (range w)) w p left at s₀ s (undeltaBytes w 1 s₀) m h in
       (e, rw e (one-level-less w (m .width .0) s₀))
 
-  pub do-done : Doing w p left at s₀ s → left ≤ 0 → s ≡ deltaBytes w 1 s₀
-  do-done m h = done (difference (range w)) latest w p left at s₀ s (deltaBytes w 1 s₀) m h
+  pub differencing-done : Differencing w p left at s₀ s → left ≤ 0 → s ≡ deltaBytes w 1 s₀
+  differencing-done m h = done (difference (range w)) latest w p left at s₀ s (deltaBytes w 1 s₀) m h
 
 -- what `search` needs for all but a turn and the end
-pub ruleset passes = (undo-start, do-start, next-fits, needs)
+pub ruleset passes = (summing-start, differencing-start, next-fits, needs)

@@ -10,19 +10,19 @@ use Rattle.filter_format.specs.declared.Filter.{Filter}
 use Rattle.filter_format.specs.declared.Filter.the-variants.{Delta, Narrow, Follow}
 use Rattle.filter_format.specs.Units.{IsWidth, unitsOf}
 use Rattle.filter_format.specs.Narrow.{narrow}
-use Rattle.filter_format.specs.Block.{filterOf, Known, isFilter, headerLength, badLevel}
+use Rattle.filter_format.specs.Block.{filterOf, HasUnitWidth, isFilter, headerLength, badLevel}
 use Rattle.filter_format.specs.Encode.{badGiven, badUnits, encodedData}
 use Rattle.filter_encode.specs.Judged.{dataLength, Judged, Headed}
 use Rattle.filter_format.proofs.Wholes.{whole-units}
 use Rattle.filter_encode.proofs.Lengths.{follow-long}
 
-pub delta-width : {f : Filter} {w : ℕ} → f ≡ Delta w → Known f → IsWidth w
-delta-width e k = subst Known e k
+pub delta-width : {f : Filter} {w : ℕ} → f ≡ Delta w → HasUnitWidth f → IsWidth w
+delta-width e k = subst HasUnitWidth e k
 
-pub narrow-width : {f : Filter} {w : ℕ} → f ≡ Narrow w → Known f → (IsWidth w) × (2 ≤ w)
-narrow-width e k = subst Known e k
+pub narrow-width : {f : Filter} {w : ℕ} → f ≡ Narrow w → HasUnitWidth f → (IsWidth w) × (2 ≤ w)
+narrow-width e k = subst HasUnitWidth e k
 
-pub narrow-whole : {f : Filter} {w : ℕ} (s : List ℕ) → f ≡ Narrow w → (Known f) × (badUnits f s ≡ false)
+pub narrow-whole : {f : Filter} {w : ℕ} (s : List ℕ) → f ≡ Narrow w → (HasUnitWidth f) × (badUnits f s ≡ false)
     → (IsWidth w) × (length s % w ≡ 0) × (2 ≤ w)
 unfolding badUnits
 narrow-whole {w = w} s e h =

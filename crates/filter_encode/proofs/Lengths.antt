@@ -9,19 +9,19 @@ use lib.Dec.{eqb, leb}
 use lib.ListN.{length, replicate, length-append}
 use Rattle.filter_format.specs.declared.Filter.{Filter}
 use Rattle.filter_format.specs.declared.Filter.the-variants.{Raw, Delta, Narrow, Follow, Other}
-use Rattle.filter_format.specs.Block.{filterOf, Known, isFilter, headerLength, badLevel}
+use Rattle.filter_format.specs.Block.{filterOf, HasUnitWidth, isFilter, headerLength, badLevel}
 use Rattle.filter_format.specs.Encode.{badGiven, badUnits, headerRest, encodedData, encoded}
 use Rattle.filter_format.proofs.Wholes.{whole-units}
 use Rattle.filter_format.proofs.Following.{length-followed}
 use Rattle.filter_format.proofs.Levels.{length-delta}
-use Rattle.filter_format.proofs.Blocks.{known}
+use Rattle.filter_format.proofs.Blocks.{has-unit-width}
 use Rattle.filter_encode.specs.Judged.{dataLength}
 
 pub follow-long : (level : ℕ) (follow : List ℕ) → badGiven Follow level follow ≡ false → length follow ≡ 256
 unfolding badGiven
 follow-long level follow e = eqb-true (length follow) 256 (not-false _ e)
 
-length-data : (f : Filter) (level : ℕ) (follow s : List ℕ) → Known f → badUnits f s ≡ false
+length-data : (f : Filter) (level : ℕ) (follow s : List ℕ) → HasUnitWidth f → badUnits f s ≡ false
     → length (encodedData f level follow s) ≡ dataLength f s
 unfolding encodedData dataLength badUnits
 length-data Raw level follow s k e = refl
@@ -52,7 +52,7 @@ length-encoded format level follow s g u =
     let f = filterOf format in
     let header : length (format ∷ headerRest f level follow) ≡ headerLength f = length-header f format level follow g in
     let long = length-append (format ∷ headerRest f level follow) (encodedData f level follow s) in
-    let body = length-data f level follow s (known format) u in
+    let body = length-data f level follow s (has-unit-width format) u in
     omega arith
 
 -- the format of a filter, and a level, are bytes

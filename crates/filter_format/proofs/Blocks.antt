@@ -13,7 +13,7 @@ use Rattle.filter_format.specs.declared.Filter.{Filter}
 use Rattle.filter_format.specs.declared.Filter.the-variants.{Raw, Delta, Narrow, Follow, Other}
 use Rattle.filter_format.specs.Units.{IsWidth}
 use Rattle.filter_format.specs.Narrow.{widen, lacking}
-use Rattle.filter_format.specs.Block.{filterOf, Known, headerLength, dataAt, badHeader, badData, decoded, undone, contentsTest}
+use Rattle.filter_format.specs.Block.{filterOf, HasUnitWidth, headerLength, dataAt, badHeader, badData, decoded, undone, contentsTest}
 use Rattle.filter_format.proofs.Wholes.{whole-units}
 use Rattle.filter_format.proofs.Levels.{length-undelta}
 use Rattle.filter_format.proofs.Following.{length-unfollowed}
@@ -21,9 +21,9 @@ use Rattle.filter_format.proofs.Following.{length-unfollowed}
 width : (w : ℕ) → 0 < w → w ≤ 4 → (w ≡ 3 → ⊥) → IsWidth w
 width w a b c = (a, b, c)
 
-pub known : (format : ℕ) → Known (filterOf format)
+pub has-unit-width : (format : ℕ) → HasUnitWidth (filterOf format)
 unfolding filterOf
-known format =
+has-unit-width format =
     pick (eqb format 0) Raw _ tt
     (
     pick (eqb format 64) (Delta 1) _ (width 1 (omega arith) (omega arith) (λ e. omega arith))
@@ -42,7 +42,7 @@ known format =
     )
     )
   where
-    pick : (t : Bool) (f g : Filter) → Known f → Known g → Known (cond t f g)
+    pick : (t : Bool) (f g : Filter) → HasUnitWidth f → HasUnitWidth g → HasUnitWidth (cond t f g)
     pick true f g h k = h
     pick false f g h k = k
 

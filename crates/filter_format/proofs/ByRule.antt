@@ -16,7 +16,7 @@ use Rattle.answers.proofs.Answers.{first-ok, second-ok, when-ok}
 use Rattle.filter_format.specs.declared.Filter.the-variants.{Delta, Narrow, Follow}
 use Rattle.filter_format.specs.Units.{range, unitsOf}
 use Rattle.filter_format.specs.Delta.{scan, difference, latest, delta, deltas, deltaBytes}
-use Rattle.filter_format.specs.Narrow.{least, narrowUnit, narrow}
+use Rattle.filter_format.specs.Narrow.{leastNarrowed, narrowUnit, narrow}
 use Rattle.filter_format.specs.Follow.{predicted, followed}
 use Rattle.filter_format.specs.Block.{filterOf, headerLength}
 use Rattle.filter_format.specs.Undo.{Result}
@@ -56,16 +56,16 @@ module _ (m : ℕ) (pos : 0 < m) where
 -- formats 70, 71: each unit in one byte where it is small
 unit-shortened : (w u : ℕ) → Shortened w u (narrowUnit w u)
 unfolding narrowUnit
-unit-shortened w u = go (leb u 127) refl (leb (least w) u) refl
+unit-shortened w u = go (leb u 127) refl (leb (leastNarrowed w) u) refl
   where
-    go : (s : Bool) → leb u 127 ≡ s → (t : Bool) → leb (least w) u ≡ t → Shortened w u (cond s (u ∷ []) (cond t (u % 256 ∷ []) (128 ∷ bytesOf w u)))
+    go : (s : Bool) → leb u 127 ≡ s → (t : Bool) → leb (leastNarrowed w) u ≡ t → Shortened w u (cond s (u ∷ []) (cond t (u % 256 ∷ []) (128 ∷ bytesOf w u)))
     go true a t b = record { small = λ h. ap (λ (k : ℕ). k ∷ []) (sym (mod-eq-of-lt (let i = leb-true u 127 a in omega arith))); other = λ h. absurd (h (inl (leb-true u 127 a))) }
-    go false a true b = record { small = λ h. refl; other = λ h. absurd (h (inr (let i = leb-true (least w) u b in omega arith))) }
+    go false a true b = record { small = λ h. refl; other = λ h. absurd (h (inr (let i = leb-true (leastNarrowed w) u b in omega arith))) }
     go false a false b = record { small = λ h. absurd (large h); other = λ h. refl }
       where
         large : IsSmall w u → ⊥
         large (inl h) = let i = leb-false u 127 a in omega arith
-        large (inr h) = let i = leb-false (least w) u b in omega arith
+        large (inr h) = let i = leb-false (leastNarrowed w) u b in omega arith
 
 units-shortened : (w : ℕ) (us : List ℕ) → AllShortened w us (narrow w us)
 unfolding narrow

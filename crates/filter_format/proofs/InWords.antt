@@ -10,7 +10,7 @@ use borrow.Author.Tests.{leb-true, lt-leb, le-ltb, ne-eqb, not-false}
 use lib.Dec.{eqb, leb, ltb}
 use lib.ListN.{length, getD}
 use Rattle.octets.specs.Numbers.{bigEndianFrom, number, bytesOf, unitsAt}
-use Rattle.octets.specs.Scans.{run, firstNot, isZero}
+use Rattle.octets.specs.Scans.{leadingCount, firstNot, isZero}
 use Rattle.answers.specs.declared.Answer.the-variants.{Accepted, Refused}
 use Rattle.answers.specs.Answer.{when, _then_, acceptedOr}
 use Rattle.answers.proofs.Answers.{first-ok, second-ok, when-ok, or-left, or-right, and-both}
@@ -51,7 +51,7 @@ level-out level (inr h) = above (leb 1 level) (leb level 3) (lt-leb level 3 h)
 
 -- "66: then two zeros"
 zeros-right : (b : List ℕ) → 4 ≤ length b → ltb (firstNot isZero 2 4 b) 4 ≡ false → (getD b 2 0 ≡ 0) × (getD b 3 0 ≡ 0)
-unfolding firstNot run
+unfolding firstNot leadingCount
 zeros-right [] l e = absurd (let a : ⊥ = omega arith in a)
 zeros-right (f ∷ []) l e = absurd (let a : ⊥ = omega arith in a)
 zeros-right (f ∷ n ∷ []) l e = absurd (let a : ⊥ = omega arith in a)

@@ -11,7 +11,7 @@ use lib.ListN.{length, take, drop, getD, replicate, length-append, take-append-d
 use lib.Seq.{take-at, drop-at}
 use Rattle.octets.specs.Parts.{part}
 use Rattle.octets.specs.Numbers.{Bytes}
-use Rattle.octets.specs.Scans.{run, oneMore, firstNot, isZero}
+use Rattle.octets.specs.Scans.{leadingCount, oneMore, firstNot, isZero}
 use Rattle.octets.proofs.Lists.{length-part}
 use Rattle.octets.proofs.AllBytes.{bytes-part, bytes-drop}
 use Rattle.answers.specs.declared.Answer.the-variants.{Accepted, Refused}
@@ -22,7 +22,7 @@ use Rattle.filter_format.specs.declared.Filter.the-variants.{Raw, Delta,
 use Rattle.filter_format.specs.Units.{IsWidth, unitsOf, notWhole}
 use Rattle.filter_format.specs.Delta.{deltaBytes, undeltaBytes}
 use Rattle.filter_format.specs.Follow.{followed, unfollowed}
-use Rattle.filter_format.specs.Block.{filterOf, Known, filterAt, isRaw, isFilter, headerLength, levelAt, followAt, dataAt, badLevel, badHeader, badData, decoded, undone, contentsTest}
+use Rattle.filter_format.specs.Block.{filterOf, HasUnitWidth, filterAt, isRaw, isFilter, headerLength, levelAt, followAt, dataAt, badLevel, badHeader, badData, decoded, undone, contentsTest}
 use Rattle.filter_format.specs.Undo.{Result, making, refusing, layerTest, undoLayer, blockTest, undoFrom}
 use Rattle.filter_format.specs.Encode.{badGiven, badUnits, headerRest, encodedData, encoded, encodeTest, encode, SameFor}
 use Rattle.filter_format.proofs.Wholes.{whole-units, below-units, bytes-of-units}
@@ -31,14 +31,14 @@ use Rattle.filter_format.proofs.Narrowing.{widen-narrow, lacking-narrow
 use Rattle.filter_format.proofs.Scans.{below-at}
 use Rattle.filter_format.proofs.Following.{unfollow-follow, follow-unfollow}
 use Rattle.filter_format.proofs.Results.{tested-ok, tested-makes}
-use Rattle.filter_format.proofs.Blocks.{known, header-fits, header-right, data-right}
+use Rattle.filter_format.proofs.Blocks.{has-unit-width, header-fits, header-right, data-right}
 
 -- every element of a list of bytes is one
 byte-at : (l : List ℕ) → Bytes l → (i : ℕ) → getD l i 0 < 256
 byte-at l y i = below-at 256 (omega arith) l y i
 
 -- what the tests ask of a block b whose filter is f, but for the room, and what undoing gives
-record Opens (f : Filter) (b s : List ℕ) : Type 0 where
+record DecodesTo (f : Filter) (b s : List ℕ) : Type 0 where
   pub fits : headerLength f ≤ length b
   pub header : badHeader f b ≡ false
   pub contents : badData f (dataAt f b) ≡ false
@@ -49,7 +49,7 @@ delta-header : (t : Bool) (format level : ℕ) (xs : List ℕ)
     → (cond t 4 2 ≤ length (format ∷ (level ∷ replicate (cond t 4 2 - 2) 0 ++ xs)))
     × (ltb (firstNot isZero 2 (cond t 4 2) (format ∷ (level ∷ replicate (cond t 4 2 - 2) 0 ++ xs))) (cond t 4 2) ≡ false)
     × (drop (cond t 4 2) (format ∷ (level ∷ replicate (cond t 4 2 - 2) 0 ++ xs)) ≡ xs)
-unfolding firstNot run
+unfolding firstNot leadingCount
 delta-header true format level xs = (omega arith, refl, refl)
 delta-header false format level xs = (omega arith, refl, refl)
 
@@ -60,7 +60,7 @@ module _ (format level : ℕ) (follow s : List ℕ) (y : Bytes s) where
   block : Filter → List ℕ
   block f = format ∷ (headerRest f level follow ++ encodedData f level follow s)
 
-  open-delta : (w : ℕ) → IsWidth w → badLevel level ≡ false → notWhole w s ≡ false → Opens (Delta w) (block (Delta w)) s
+  open-delta : (w : ℕ) → IsWidth w → badLevel level ≡ false → notWhole w s ≡ false → DecodesTo (Delta w) (block (Delta w)) s
   unfolding block headerLength headerRest encodedData badHeader badData decoded
   open-delta w k l n =
       let xs = deltaBytes w level s in
@@ -74,7 +74,7 @@ module _ (format level : ℕ) (follow s : List ℕ) (y : Bytes s) where
         gives = rw (h .2) (undelta-delta-bytes w (k .0) s whole y level);
       }
 
-  open-narrow : (w : ℕ) → IsWidth w → notWhole w s ≡ false → Opens (Narrow w) (block (Narrow w)) s
+  open-narrow : (w : ℕ) → IsWidth w → notWhole w s ≡ false → DecodesTo (Narrow w) (block (Narrow w)) s
   unfolding block headerLength headerRest encodedData badHeader badData decoded
   open-narrow w k n =
       let whole : length s % w ≡ 0 = whole-units w s n in
@@ -86,7 +86,7 @@ module _ (format level : ℕ) (follow s : List ℕ) (y : Bytes s) where
         gives = widen-narrow w (unitsOf w s) (k .0) small ∙ bytes-of-units w s whole y;
       }
 
-  open-follow : length follow ≡ 256 → Bytes follow → Opens Follow (block Follow) s
+  open-follow : length follow ≡ 256 → Bytes follow → DecodesTo Follow (block Follow) s
   unfolding block headerLength headerRest encodedData badHeader badData decoded
   open-follow n z =
       let xs = followed follow s in
@@ -101,7 +101,7 @@ module _ (format level : ℕ) (follow s : List ℕ) (y : Bytes s) where
       }
 
   -- every filter
-  opened : (f : Filter) → Known f → isFilter f ≡ true → badGiven f level follow ≡ false → badUnits f s ≡ false → Bytes follow → Opens f (block f) s
+  opened : (f : Filter) → HasUnitWidth f → isFilter f ≡ true → badGiven f level follow ≡ false → badUnits f s ≡ false → Bytes follow → DecodesTo f (block f) s
   unfolding badGiven badUnits
   opened Raw k i g u z = let e : _≡_ {A = ℕ} 0 1 = cc in absurd (omega arith)
   opened (Delta w) k i g u z = open-delta w k g u
@@ -110,7 +110,7 @@ module _ (format level : ℕ) (follow s : List ℕ) (y : Bytes s) where
   opened Other k i g u z = let e : _≡_ {A = ℕ} 0 1 = cc in absurd (omega arith)
 
 -- an opened block passes the tests if there is room
-module _ (room : ℕ) (b s : List ℕ) (o : Opens (filterAt b) b s) where
+module _ (room : ℕ) (b s : List ℕ) (o : DecodesTo (filterAt b) b s) where
   undone-is : undone (filterAt b) b ≡ s
   unfolding undone
   undone-is = o .gives
@@ -127,10 +127,10 @@ module _ (room format level : ℕ) (follow s : List ℕ) (ok : encodeTest room f
   unfolding encodeTest
   is-filter = not-false _ (when-ok _ _ _ (first-ok _ _ ok))
 
-  encoded-opens : Bytes s → Bytes follow → Opens (filterOf format) (encoded format level follow s) s
+  encoded-decodes : Bytes s → Bytes follow → DecodesTo (filterOf format) (encoded format level follow s) s
   unfolding encodeTest encoded block
-  encoded-opens y z =
-      opened format level follow s y (filterOf format) (known format) is-filter (when-ok _ _ _ (first-ok _ _ (second-ok _ _ ok)))
+  encoded-decodes y z =
+      opened format level follow s y (filterOf format) (has-unit-width format) is-filter (when-ok _ _ _ (first-ok _ _ (second-ok _ _ ok)))
       (when-ok _ _ _ (first-ok _ _ (second-ok _ _ (second-ok _ _ ok)))) z
 
 filter-encoded : (format level : ℕ) (follow s : List ℕ) → filterAt (encoded format level follow s) ≡ filterOf format
@@ -164,11 +164,11 @@ module _ (room room' format level : ℕ) (follow source : List ℕ) (y : Bytes s
   unfolding encode layer
   made = ap (λ (r : Result). r .bytes) (tested-makes _ (encoded format level follow source) accepted)
 
-  opens : Opens (filterAt layer) layer source
+  decodes : DecodesTo (filterAt layer) layer source
   unfolding layer
-  opens =
-      subst (λ (f : Filter). Opens f layer source) (sym (filter-encoded format level follow source))
-      (encoded-opens room format level follow source accepted y z)
+  decodes =
+      subst (λ (f : Filter). DecodesTo f layer source) (sym (filter-encoded format level follow source))
+      (encoded-decodes room format level follow source accepted y z)
 
   filters : isFilter (filterAt layer) ≡ true
   unfolding layer
@@ -180,8 +180,8 @@ module _ (room room' format level : ℕ) (follow source : List ℕ) (y : Bytes s
   undo-after-encode =
       rw made
       (tested-makes _ (undone (filterAt layer) layer)
-      (both-ok _ _ (ok-when _ _ _ (some format level follow source)) (both-ok _ _ (ok-when _ _ _ (ap not filters)) (contents-ok room' layer source opens fits)))
-      ∙ ap making (undone-is room' layer source opens))
+      (both-ok _ _ (ok-when _ _ _ (some format level follow source)) (both-ok _ _ (ok-when _ _ _ (ap not filters)) (contents-ok room' layer source decodes fits)))
+      ∙ ap making (undone-is room' layer source decodes))
 
   -- a layer of a chain: the block within it is what is undone next
   pub chain-after-encode : (left : ℕ)
@@ -192,8 +192,8 @@ module _ (room room' format level : ℕ) (follow source : List ℕ) (y : Bytes s
       let more : eqb (suc left) 0 ≡ false = ne-eqb (suc left) 0 (λ e. omega arith) in
       let test : blockTest (suc left) room' layer ≡ Accepted =
       both-ok _ _ (ok-when _ _ _ (some format level follow source))
-      (both-ok _ _ (ok-when _ _ _ (rw (raw, filters))) (both-ok _ _ (ok-when _ _ _ (rw (filters, more))) (contents-ok room' layer source opens fits))) in
-      rw (made, test, raw) (ap (undoFrom left room') (undone-is room' layer source opens))
+      (both-ok _ _ (ok-when _ _ _ (rw (raw, filters))) (both-ok _ _ (ok-when _ _ _ (rw (filters, more))) (contents-ok room' layer source decodes fits))) in
+      rw (made, test, raw) (ap (undoFrom left room') (undone-is room' layer source decodes))
 
   -- "44 a ninth filter": where no filter may be opened any more
   pub ninth-after-encode : undoFrom 0 room' (encode room format level follow source .bytes) ≡ refusing (Refused 44 0)
@@ -210,7 +210,7 @@ zeros x y false u e f h = let k = ltb-false 2 4 h in absurd (omega arith)
 
 delta-block : (t : Bool) (b : List ℕ) → cond t 4 2 ≤ length b → ltb (firstNot isZero 2 (cond t 4 2) b) (cond t 4 2) ≡ false
     → getD b 0 0 ∷ (getD b 1 0 ∷ replicate (cond t 4 2 - 2) 0 ++ drop (cond t 4 2) b) ≡ b
-unfolding firstNot run
+unfolding firstNot leadingCount
 delta-block false [] h z = absurd (omega arith)
 delta-block false (x ∷ []) h z = absurd (omega arith)
 delta-block false (x ∷ y ∷ r) h z = refl
@@ -260,7 +260,7 @@ module _ (b : List ℕ) (y : Bytes b) (level : ℕ) (follow : List ℕ) where
       follow-block [] k = absurd (omega arith)
       follow-block (x ∷ r) k = ap (λ (t : List ℕ). x ∷ t) (take-append-drop 256 r)
 
-  again : (f : Filter) → Known f → headerLength f ≤ length b → badHeader f b ≡ false → badData f (dataAt f b) ≡ false → SameFor f b level follow
+  again : (f : Filter) → HasUnitWidth f → headerLength f ≤ length b → badHeader f b ≡ false → badData f (dataAt f b) ≡ false → SameFor f b level follow
       → Again f b level follow (decoded f (levelAt b) (followAt b) (dataAt f b))
   unfolding decoded headerLength
   again Raw k h e n l = absurd l
@@ -277,7 +277,7 @@ unfolding undoLayer layerTest encode encodeTest encoded undone
 encode-after-undo room room' level follow block y ok same fits =
     let test = tested-ok _ _ ok in
     let contents : contentsTest (filterAt block) room block ≡ Accepted = second-ok _ _ (second-ok _ _ test) in
-    let a = again block y level follow (filterAt block) (known (getD block 0 0)) (header-fits (filterAt block) room block contents) (header-right (filterAt block) room block contents) (data-right (filterAt block) room block contents) same in
+    let a = again block y level follow (filterAt block) (has-unit-width (getD block 0 0)) (header-fits (filterAt block) room block contents) (header-right (filterAt block) room block contents) (data-right (filterAt block) room block contents) same in
     let accepted =
     both-ok _ _ (ok-when _ _ _ (ap not (a .filter)))
     (both-ok _ _ (ok-when _ _ _ (a .given)) (both-ok _ _ (ok-when _ _ _ (a .units)) (ok-under room' (length (encoded (getD block 0 0) level follow (undone (filterAt block) block))) _ _ (subst (λ (l : List ℕ). length l ≤ room') (sym (a .block-is)) fits)))) in

@@ -11,7 +11,7 @@ use lib.ListN.{length}
 use Rattle.octets.specs.Numbers.{Below, bytesOf, unitBytes}
 use Rattle.octets.proofs.Digits.{length-bytesOf}
 use Rattle.filter_format.specs.Units.{range, IsWidth}
-use Rattle.filter_format.specs.Narrow.{least, narrowUnit, narrow, extended, widen, lacking}
+use Rattle.filter_format.specs.Narrow.{leastNarrowed, narrowUnit, narrow, extended, widen, lacking}
 
 -- the bytes of a whole unit are taken as they are
 pub widen-whole : (w : ℕ) (t s : List ℕ) → widen w (length t) (t ++ s) ≡ t ++ widen w 0 s
@@ -52,19 +52,19 @@ enough w (suc k) (c ∷ s) e = omega (arith, enough w k s e)
 abbrev Narrowed : ℕ → ℕ → Type 0
 Narrowed w u = ((c : ℕ) × (narrowUnit w u ≡ c ∷ []) × (c ≡ 128 → ⊥) × (extended w c ≡ u)) ⊎ (narrowUnit w u ≡ 128 ∷ bytesOf w u)
 
-narrowed-by : (w u : ℕ) → 0 < w → u < range w → Dec (u ≤ 127) → Dec (least w ≤ u) → Narrowed w u
+narrowed-by : (w u : ℕ) → 0 < w → u < range w → Dec (u ≤ 127) → Dec (leastNarrowed w ≤ u) → Narrowed w u
 unfolding narrowUnit extended
 narrowed-by w u pos fits (yes h) d = inl (u, rw (le-leb u 127 h), (λ e. omega arith), rw (lt-ltb u 128 (omega arith)))
 narrowed-by zero u pos fits (no n) d = absurd (omega arith)
 narrowed-by (suc v) u pos fits (no n) (yes h) =
     -- the low byte of such a unit is not 128
     let low : (128 < u % 256) × (range (suc v) - 256 + u % 256 ≡ u) = omega (arith, h, fits, pow-suc 256 v, one-le-pow v 256 (omega arith)) in
-    inl (u % 256, rw (lt-leb u 127 (omega arith), le-leb (least (suc v)) u h), (λ e. omega (arith, e, low .0)), rw (le-ltb (u % 256) 128 (omega (arith, low .0))) (low .1))
-narrowed-by (suc v) u pos fits (no n) (no h) = inr (rw (lt-leb u 127 (omega arith), lt-leb (least (suc v)) u (omega arith)))
+    inl (u % 256, rw (lt-leb u 127 (omega arith), le-leb (leastNarrowed (suc v)) u h), (λ e. omega (arith, e, low .0)), rw (le-ltb (u % 256) 128 (omega (arith, low .0))) (low .1))
+narrowed-by (suc v) u pos fits (no n) (no h) = inr (rw (lt-leb u 127 (omega arith), lt-leb (leastNarrowed (suc v)) u (omega arith)))
 
 module _ (w u : ℕ) (pos : 0 < w) (fits : u < range w) (s : List ℕ) where
   narrowed : Narrowed w u
-  narrowed = narrowed-by w u pos fits (decLe u 127) (decLe (least w) u)
+  narrowed = narrowed-by w u pos fits (decLe u 127) (decLe (leastNarrowed w) u)
 
   widen-unit : widen w 0 (narrowUnit w u ++ s) ≡ bytesOf w u ++ widen w 0 s
   widen-unit =

@@ -109,9 +109,9 @@ contentsTest filter room block =
     then when (ltb room (length (undone filter block))) 26 0
 
 -- what the code asks of a filter, and every format gives: its units have a width
-abbrev pub Known : Filter → Type 0
-Known Raw = Unit {0}
-Known (Delta width) = IsWidth width
-Known (Narrow width) = (IsWidth width) × (2 ≤ width)
-Known Follow = Unit {0}
-Known Other = Unit {0}
+abbrev pub HasUnitWidth : Filter → Type 0
+HasUnitWidth Raw = Unit {0}
+HasUnitWidth (Delta width) = IsWidth width
+HasUnitWidth (Narrow width) = (IsWidth width) × (2 ≤ width)
+HasUnitWidth Follow = Unit {0}
+HasUnitWidth Other = Unit {0}

@@ -8,13 +8,14 @@ use Rattle.octets.specs.Numbers.{bytesOf}
 use Rattle.filter_format.specs.Units.{range}
 
 -- -127 as a unit, in two's complement
-abbrev pub least : ℕ → ℕ
-least width = range width - 127
+abbrev pub leastNarrowed : ℕ → ℕ
+leastNarrowed width = range width - 127
 
--- "-127 to 127 as one byte, else byte 128 and the unit whole": 0 to 127, and the units from `least` on, are -127 to 127
+-- "-127 to 127 as one byte, else byte 128 and the unit whole": 0 to 127, and the units from `leastNarrowed` on, are
+-- -127 to 127
 unfoldable pub narrowUnit : ℕ → ℕ → List ℕ
 narrowUnit width unit =
-    cond (leb unit 127) (unit ∷ []) (cond (leb (least width) unit) (unit % 256 ∷ []) (128 ∷ bytesOf width unit))
+    cond (leb unit 127) (unit ∷ []) (cond (leb (leastNarrowed width) unit) (unit % 256 ∷ []) (128 ∷ bytesOf width unit))
 
 -- the units one after another
 unfoldable pub narrow : ℕ → List ℕ → List ℕ

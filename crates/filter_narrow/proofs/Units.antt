@@ -14,7 +14,7 @@ use Rattle.octets.specs.Numbers.{number, bytesOf, unitsAt}
 use Rattle.octets.proofs.Lists.{put-sets, put-put}
 use Rattle.octets.proofs.Digits.{length-bytesOf}
 use Rattle.filter_format.specs.Units.{unitsOf}
-use Rattle.filter_format.specs.Narrow.{least, narrowUnit, narrow}
+use Rattle.filter_format.specs.Narrow.{leastNarrowed, narrowUnit, narrow}
 use Rattle.filter_format.proofs.Wholes.{units-in}
 use Rattle.filter_narrow.specs.Counted.{fitsOne}
 use Rattle.filter_narrow.proofs.Filling.{Filling, filling-start, filling-same, filling-room, filling-more, filling-done}
@@ -23,7 +23,7 @@ use Rattle.filter_narrow.proofs.Filling.{Filling, filling-start, fillin
 module _ (w u : ℕ) {t : Bool} (e : t ≡ fitsOne w u) where
   narrow-one : t ≡ true → narrowUnit w u ≡ u % 256 ∷ []
   unfolding narrowUnit
-  narrow-one f = go (leb u 127) (leb (least w) u) refl (sym e ∙ f)
+  narrow-one f = go (leb u 127) (leb (leastNarrowed w) u) refl (sym e ∙ f)
     where
       go : (a b : Bool) → leb u 127 ≡ a → (a || b) ≡ true
           → cond a (u ∷ []) (cond b (u % 256 ∷ []) (128 ∷ bytesOf w u)) ≡ u % 256 ∷ []
@@ -33,7 +33,7 @@ module _ (w u : ℕ) {t : Bool} (e : t ≡ fitsOne w u) where
 
   narrow-whole : t ≡ false → narrowUnit w u ≡ 128 ∷ bytesOf w u
   unfolding narrowUnit
-  narrow-whole f = go (leb u 127) (leb (least w) u) (sym e ∙ f)
+  narrow-whole f = go (leb u 127) (leb (leastNarrowed w) u) (sym e ∙ f)
     where
       go : (a b : Bool) → (a || b) ≡ false → cond a (u ∷ []) (cond b (u % 256 ∷ []) (128 ∷ bytesOf w u)) ≡ 128 ∷ bytesOf w u
       go true b o = cc

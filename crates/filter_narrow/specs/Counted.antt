@@ -4,7 +4,7 @@ use Prim.Native.Nat.{ℕ, zero, suc}
 use mathlib.Core.Bool.{Bool, cond, _||_}
 use mathlib.Core.List.{List, [], _∷_}
 use lib.Dec.{eqb, leb, ltb}
-use Rattle.filter_format.specs.Narrow.{least, lacking}
+use Rattle.filter_format.specs.Narrow.{leastNarrowed, lacking}
 use Rattle.filter_narrow.specs.declared.Counted.{Counted}
 use Rattle.filter_narrow.specs.declared.Counted.the-variants.{Units, Lacking}
 
@@ -20,4 +20,4 @@ counted width source = cond (ltb 0 (lacking width 0 source)) Lacking (Units (beg
 
 -- "-127 to 127", in two's complement
 abbrev pub fitsOne : ℕ → ℕ → Bool
-fitsOne width unit = leb unit 127 || leb (least width) unit
+fitsOne width unit = leb unit 127 || leb (leastNarrowed width) unit

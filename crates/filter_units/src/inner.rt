@@ -12,29 +12,29 @@ use octets::inner::get32;
 use octets::wide;
 
 // The unit of w bytes at `at`.
-pub fn get_unit(s: &[u8], at: usize, w: usize) -> u32
-    requires { ⌜ (IsWidth w) × (at + w ≤ length (now s)) ⌝ }
-    ensures { λ r. ⌜ (r ≡ number w at (now (s .entry))) × (r < range w) ⌝ }
+pub fn get_unit(bytes: &[u8], at: usize, width: usize) -> u32
+    requires { ⌜ (IsWidth width) × (at + width ≤ length (now bytes)) ⌝ }
+    ensures { λ r. ⌜ (r ≡ number width at (now (bytes .entry))) × (r < range width) ⌝ }
 {
-    if w == 1 {
-        wide(s[at]) as u32
-    } else if w == 2 {
-        get16(s, at) as u32
+    if width == 1 {
+        wide(bytes[at]) as u32
+    } else if width == 2 {
+        get16(bytes, at) as u32
     } else {
-        get32(s, at) as u32
+        get32(bytes, at) as u32
     }
 }
 
 // Puts the w low bytes of v at `at`.
-pub fn put_unit(s: &mut [u8], at: usize, w: usize, v: u32)
-    requires { ⌜ (IsWidth w) × (at + w ≤ length (now s)) ⌝ }
-    ensures { λ _. ⌜ now (s .exit) ≡ putAt at (bytesOf w v) (now (s .entry)) ⌝ }
+pub fn put_unit(bytes: &mut [u8], at: usize, width: usize, value: u32)
+    requires { ⌜ (IsWidth width) × (at + width ≤ length (now bytes)) ⌝ }
+    ensures { λ _. ⌜ now (bytes .exit) ≡ putAt at (bytesOf width value) (now (bytes .entry)) ⌝ }
 {
-    if w == 1 {
-        s[at] = (v % 256) as u8;
-    } else if w == 2 {
-        put16(s, at, v as usize);
+    if width == 1 {
+        bytes[at] = (value % 256) as u8;
+    } else if width == 2 {
+        put16(bytes, at, value as usize);
     } else {
-        put32(s, at, v as usize);
+        put32(bytes, at, value as usize);
     }
 }

@@ -1,5 +1,5 @@
 // C exports of the library's calls, for tests and benchmarks alone. No host calls them.
-ghost use Rattle.host_calls.specs.Outs.{Tested, Corrected};
+ghost use Rattle.service_calls.specs.Outs.{Tested, Corrected};
 ghost use Rattle.harness_files.specs.Outs.{FlowCharactersCopied, KeyCopied, ViewTested, StateMade, SteppedOn};
 ghost use Rattle.harness_files.specs.Outs.{InsertCopied, SignalSummarised, FileMade, ReadAppended};
 ghost use Rattle.harness_corrections.specs.Outs.{ListCorrected};
@@ -18,8 +18,8 @@ use harness_filters::encode_out;
 use harness_filters::samples_out;
 use harness_filters::undo_layer_out;
 use harness_filters::undo_out;
-use host_calls::correct_out;
-use host_calls::test_out;
+use service_calls::correct_out;
+use service_calls::test_out;
 
 #[no_mangle]
 pub extern "C" fn h_test(file: &[u8], place: &mut u64) -> u64

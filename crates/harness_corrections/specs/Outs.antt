@@ -3,7 +3,7 @@ use Prim.Native.Nat.{ℕ}
 use mathlib.Core.Path.{_≡_}
 use mathlib.Core.List.{List}
 use Rattle.answers.specs.Answer.{numberOf, placeOf}
-use Rattle.sff_correction.specs.ListRun.{runList}
+use Rattle.correction_format.specs.ListRun.{runList}
 
 -- what a list of corrections leaves: number of its answer, count of records, place, the file's length and the buffer
 abbrev pub ListCorrected : List ℕ → ℕ → List ℕ → ℕ → ℕ → ℕ → ℕ → List ℕ → Type 0

@@ -10,7 +10,7 @@ use lib.Ieee.{Float}
 use Rattle.octets.specs.Parts.{putAt}
 use Rattle.answers.specs.Answer.{numberOf, placeOf}
 use Rattle.sff_format.specs.declared.Clips.{Clips}
-use Rattle.sff_format.specs.declared.Stretch.{Stretch}
+use Rattle.sff_format.specs.declared.Span.{Span}
 use Rattle.sff_format.specs.declared.ReadView.{ReadView}
 use Rattle.sff_format.specs.HeaderTest.{headerTest, fileFlowCharacters, fileKey}
 use Rattle.sff_format.specs.View.{viewTest}
@@ -27,17 +27,17 @@ stateFrom at passed index-passed = record { place = at; passed-reads = passed; p
 -- a view that is given as a list of numbers: place and size of the name, the values, the increments, the bases and the
 -- qualities, then the clips in file order; what the list does not reach is 0, and so is the read's place, which no
 -- accessor asks for
-abbrev pub stretchFrom : List ℕ → ℕ → ℕ → Stretch
-stretchFrom list i j = record { at = getD list i 0; size = getD list j 0 }
+abbrev pub spanFrom : List ℕ → ℕ → ℕ → Span
+spanFrom list i j = record { at = getD list i 0; size = getD list j 0 }
 
 unfoldable pub viewFrom : List ℕ → ReadView
 viewFrom list = record {
   place = 0;
-  name = stretchFrom list 0 1;
-  values = stretchFrom list 2 3;
-  increments = stretchFrom list 4 5;
-  bases = stretchFrom list 6 7;
-  qualities = stretchFrom list 8 9;
+  name = spanFrom list 0 1;
+  values = spanFrom list 2 3;
+  increments = spanFrom list 4 5;
+  bases = spanFrom list 6 7;
+  qualities = spanFrom list 8 9;
   «quality_left» = getD list 10 0;
   «quality_right» = getD list 11 0;
   «adapter_left» = getD list 12 0;
@@ -56,7 +56,7 @@ abbrev pub viewClips : ReadView → ℕ
 viewClips view = packed (view .«quality_left») (view .«quality_right») (view .«adapter_left») (view .«adapter_right»)
 
 -- each clip has 16 bits
-pub record SmallClips (view : ReadView) : Type 0 where
+pub record ClipsFit (view : ReadView) : Type 0 where
   pub quality-left : view .«quality_left» < 65536
   pub quality-right : view .«quality_right» < 65536
   pub adapter-left : view .«adapter_left» < 65536

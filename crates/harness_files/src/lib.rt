@@ -3,7 +3,7 @@ ghost use mathlib.Core.Path.{_≡_};
 ghost use lib.ListN.{getD};
 ghost use Rattle.sff_format.specs.Step.{step, found, stop};
 ghost use Rattle.sff_reader.specs.Forms.{stateOf};
-ghost use Rattle.harness_files.specs.Outs.{flag, stretchFrom, viewFrom, viewClips, SmallClips, steppedOf, putFront, clipsFrom};
+ghost use Rattle.harness_files.specs.Outs.{flag, spanFrom, viewFrom, viewClips, ClipsFit, steppedOf, putFront, clipsFrom};
 ghost use Rattle.harness_files.specs.Outs.{FlowCharactersCopied, KeyCopied, ViewTested, StateMade, SteppedOn};
 ghost use Rattle.harness_files.specs.Outs.{InsertCopied, SignalSummarised, FileMade, ReadAppended};
 use answers::number_of;
@@ -13,7 +13,7 @@ use octets::wide;
 use sff_find::position_test;
 use sff_format::Clips;
 use sff_format::ReadView;
-use sff_format::Stretch;
+use sff_format::Span;
 use sff_header::flow_characters;
 use sff_header::header_test;
 use sff_header::key;
@@ -47,7 +47,7 @@ fn flag_of(x: bool) -> u64
 }
 
 fn clips_of(view: ReadView) -> u64
-    requires { ⌜ SmallClips view ⌝ }
+    requires { ⌜ ClipsFit view ⌝ }
     ensures { λ r. ⌜ r ≡ viewClips view ⌝ }
 {
     let quality = view.quality_left * 65536 + view.quality_right;
@@ -56,7 +56,7 @@ fn clips_of(view: ReadView) -> u64
 }
 
 fn read_found(view: ReadView, next: Reader) -> Stepped
-    requires { ⌜ SmallClips view ⌝ }
+    requires { ⌜ ClipsFit view ⌝ }
     ensures { λ r. ⌜ r ≡ steppedOf (found view (stateOf next)) ⌝ }
 {
     Stepped {
@@ -199,10 +199,10 @@ fn number_at(numbers: &[u64], i: usize) -> usize
     }
 }
 
-fn stretch_from(numbers: &[u64], at: usize, size: usize) -> Stretch
-    ensures { λ r. ⌜ r ≡ stretchFrom (now (numbers .entry)) at size ⌝ }
+fn span_from(numbers: &[u64], at: usize, size: usize) -> Span
+    ensures { λ r. ⌜ r ≡ spanFrom (now (numbers .entry)) at size ⌝ }
 {
-    Stretch {
+    Span {
         at: number_at(numbers, at),
         size: number_at(numbers, size),
     }
@@ -213,11 +213,11 @@ fn view_from(numbers: &[u64]) -> ReadView
 {
     ReadView {
         place: 0,
-        name: stretch_from(numbers, 0, 1),
-        values: stretch_from(numbers, 2, 3),
-        increments: stretch_from(numbers, 4, 5),
-        bases: stretch_from(numbers, 6, 7),
-        qualities: stretch_from(numbers, 8, 9),
+        name: span_from(numbers, 0, 1),
+        values: span_from(numbers, 2, 3),
+        increments: span_from(numbers, 4, 5),
+        bases: span_from(numbers, 6, 7),
+        qualities: span_from(numbers, 8, 9),
         quality_left: number_at(numbers, 10),
         quality_right: number_at(numbers, 11),
         adapter_left: number_at(numbers, 12),

@@ -8,8 +8,8 @@ ghost use Rattle.harness_filters.specs.Outs.{Undone, LayerUndone, Encode
 use answers::number_of;
 use filter_encode::encode;
 use filter_format::Filtered;
-use filters::undo;
-use filters::undo_layer;
+use filter_undo::undo;
+use filter_undo::undo_layer;
 use scf_samples::encode_samples;
 use scf_samples::undo_samples;
 

@@ -5,7 +5,7 @@ use printing::print_text;
 fn main() {
     let mut input = [0u8; 65537];
     let n = io::read_full(STDIN_FILENO, &mut input);
-    let mut text = listing::print_room();
-    let written = listing::print(&input[..n], &mut text);
+    let mut text = lister_text::print_room();
+    let written = lister_text::print(&input[..n], &mut text);
     print_text(written, &text);
 }

@@ -13,8 +13,8 @@ fn print_file(i: usize) {
     let mut input = [0u8; 65537];
     let m = io::read_full(fd, &mut input);
     libc::close(fd);
-    let mut text = listing::print_room();
-    let written = listing::print(&input[..m], &mut text);
+    let mut text = lister_text::print_room();
+    let written = lister_text::print(&input[..m], &mut text);
     io::write_all(STDOUT_FILENO, &path[..n]);
     io::write_all(STDOUT_FILENO, b":\n");
     print_text(written, &text);

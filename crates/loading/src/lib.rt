@@ -9,8 +9,8 @@ pub enum Loaded {
 }
 
 fn print_too_long() {
-    let mut text = report::report_room();
-    let written = report::too_long(&mut text);
+    let mut text = correct_text::report_room();
+    let written = correct_text::too_long(&mut text);
     print_text(written, &text);
 }
 

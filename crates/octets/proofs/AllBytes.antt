@@ -8,7 +8,7 @@ use native.Mathlib.Nat.{mod-lt}
 use lib.ListN.{length, take, drop, getD, replicate}
 use Rattle.octets.specs.Parts.{part, filled}
 use Rattle.octets.specs.Numbers.{Bytes, bytesOf, fields, unitBytes}
-use Rattle.octets.specs.Scans.{run, Every}
+use Rattle.octets.specs.Scans.{leadingCount, Every}
 
 -- a slice's elements are bytes: `c .slice-known .given` says so of each
 pub bytes-of : (l : List ℕ) → ((i : ℕ) → getD l i 0 < 256) → Bytes l
@@ -62,12 +62,12 @@ bytes-filled n xs a = bytes-both xs (replicate (n - length xs) 0) a (bytes-zeros
 
 -- every element passes a test that bytes alone pass
 pub bytes-every : (t : ℕ → Bool) → ((x : ℕ) → t x ≡ true → x < 256) → (xs : List ℕ) → Every t xs → Bytes xs
-unfolding run
+unfolding leadingCount
 bytes-every t small [] e = tt
 bytes-every t small (x ∷ xs) e = go (t x) refl (bytes-every t small xs)
   where
     go : (s : Bool) → t x ≡ s → (Every t xs → Bytes xs) → Bytes (x ∷ xs)
-    go true h more = let a : suc (run t xs) ≡ suc (length xs) = rw h at e in (small x h, more (omega arith))
+    go true h more = let a : suc (leadingCount t xs) ≡ suc (length xs) = rw h at e in (small x h, more (omega arith))
     go false h more = let a : 0 ≡ suc (length xs) = rw h at e in absurd (omega arith)
 
 pub bytes-part : (at n : ℕ) (list : List ℕ) → Bytes list → Bytes (part at n list)

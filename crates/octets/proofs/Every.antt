@@ -9,14 +9,14 @@ use lib.ListN.{length, take, getD}
 use lib.Dec.{ltb}
 use lib.Seq.{take-suc, take-all}
 use borrow.Author.Tests.{ltb-false, le-ltb, lt-ltb}
-use Rattle.octets.specs.Scans.{oneMore, run, Every, fails}
-use Rattle.octets.proofs.Scan.{run-le}
+use Rattle.octets.specs.Scans.{oneMore, leadingCount, Every, fails}
+use Rattle.octets.proofs.Scan.{leading-le}
 
 pub none-fails : (test : ℕ → Bool) (xs : List ℕ) → fails test xs ≡ false → Every test xs
-none-fails test xs e = let h = ltb-false (run test xs) (length xs) e in omega (arith, h, run-le test xs)
+none-fails test xs e = let h = ltb-false (leadingCount test xs) (length xs) e in omega (arith, h, leading-le test xs)
 
 pub every-passes : (test : ℕ → Bool) (xs : List ℕ) → Every test xs → fails test xs ≡ false
-every-passes test xs e = le-ltb (run test xs) (length xs) (omega arith)
+every-passes test xs e = le-ltb (leadingCount test xs) (length xs) (omega arith)
 
 -- every element of both lists
 pub first-passes : (t : Bool) (k n : ℕ) → oneMore t k ≡ suc n → (t ≡ true) × (k ≡ n)
@@ -24,29 +24,29 @@ first-passes true k n e = (refl, omega (arith, e))
 first-passes false k n e = absurd (let a : ⊥ = omega (arith, e) in a)
 
 pub every-left : (test : ℕ → Bool) (xs ys : List ℕ) → Every test (xs ++ ys) → Every test xs
-unfolding run
+unfolding leadingCount
 every-left test [] ys e = refl
 every-left test (x ∷ xs) ys e = let f = first-passes (test x) _ _ e in rw (f .0) (ap suc (every-left test xs ys (f .1)))
 
 pub every-right : (test : ℕ → Bool) (xs ys : List ℕ) → Every test (xs ++ ys) → Every test ys
-unfolding run
+unfolding leadingCount
 every-right test [] ys e = e
 every-right test (x ∷ xs) ys e = every-right test xs ys (first-passes (test x) _ _ e .1)
 
 pub every-both : (test : ℕ → Bool) (xs ys : List ℕ) → Every test xs → Every test ys → Every test (xs ++ ys)
-unfolding run
+unfolding leadingCount
 every-both test [] ys e f = f
 every-both test (x ∷ xs) ys e f = let g = first-passes (test x) _ _ e in rw (g .0) (ap suc (every-both test xs ys (g .1) f))
 
 -- every element, place by place
 pub every-at : (test : ℕ → Bool) (xs : List ℕ) → Every test xs → (i : ℕ) → i < length xs → test (getD xs i 0) ≡ true
-unfolding run
+unfolding leadingCount
 every-at test [] e i h = absurd (let a : ⊥ = omega arith in a)
 every-at test (x ∷ xs) e zero h = first-passes (test x) _ _ e .0
 every-at test (x ∷ xs) e (suc i) h = every-at test xs (first-passes (test x) _ _ e .1) i (omega arith)
 
 pub at-every : (test : ℕ → Bool) (xs : List ℕ) → ((i : ℕ) → i < length xs → test (getD xs i 0) ≡ true) → Every test xs
-unfolding run
+unfolding leadingCount
 at-every test [] f = refl
 at-every test (x ∷ xs) f =
     let t : test x ≡ true = f 0 (omega arith) in
@@ -62,7 +62,7 @@ more-fails true k n = rw compare·suc-suc
 more-fails false k n = lt-ltb 0 (suc n) (omega arith)
 
 pub fails-snoc : (test : ℕ → Bool) (xs : List ℕ) (x : ℕ) → fails test (xs ++ (x ∷ [])) ≡ (fails test xs || not (test x))
-unfolding run
+unfolding leadingCount
 fails-snoc test [] x = fails-one (test x)
 fails-snoc test (y ∷ xs) x =
     more-fails (test y) _ _
@@ -76,7 +76,7 @@ pub record Told (p : ℕ → Bool) (l : List ℕ) (j : ℕ) (failed : Bool) : Ty
   pub is : failed ≡ fails p (take j l)
 
 pub told-start : (p : ℕ → Bool) (l : List ℕ) → Told p l 0 false
-unfolding run
+unfolding leadingCount
 told-start p l = record { low = omega arith; is = refl }
 
 module _ {p : ℕ → Bool} {l : List ℕ} {j : ℕ} {failed : Bool} (s : Told p l j failed) where

@@ -1,12 +1,12 @@
 -- `Lists`: parts and what is put. `AllBytes`, `Digits`: bytes, and numbers over the width. `Stands`, `Inserts`: what
--- stands at a place, both ways. `Settled`: a file at the front of a buffer. `Moves`, `Worded`, `Scan`, `Same`: the
+-- stands at a place, both ways. `FilledFront`: a file at the front of a buffer. `Moves`, `Worded`, `Scan`, `Same`: the
 -- loops' invariants.
 pub mod Lists
 pub mod AllBytes
 pub mod Digits
 pub mod Stands
 pub mod Inserts
-pub mod Settled
+pub mod FilledFront
 pub mod Moves
 pub mod Worded
 pub mod Scan

@@ -10,30 +10,30 @@ use borrow.Author.Tests.{not-true, not-false}
 use lib.ListN.{length, getD}
 use lib.Seq.{take-length}
 use Rattle.octets.proofs.Lists.{part-suc}
-use Rattle.octets.specs.Scans.{firstNot, run, oneMore}
+use Rattle.octets.specs.Scans.{firstNot, leadingCount, oneMore}
 
 module _ (p : ℕ → Bool) (i to : ℕ) (l : List ℕ) where
   -- the element at i fails
   pub stop : i < to → to ≤ length l → p (getD l i 0) ≡ false → firstNot p i to l ≡ i
-  unfolding firstNot run
+  unfolding firstNot leadingCount
   stop h k f =
       let n : to - i ≡ suc (to - (i + 1)) = omega arith in
       rw (n, part-suc i (to - (i + 1)) l (omega arith), f) (omega arith)
 
   -- the element at i passes
   pub go : i < to → to ≤ length l → p (getD l i 0) ≡ true → firstNot p i to l ≡ firstNot p (i + 1) to l
-  unfolding firstNot run
+  unfolding firstNot leadingCount
   go h k t =
       let n : to - i ≡ suc (to - (i + 1)) = omega arith in
       rw (n, part-suc i (to - (i + 1)) l (omega arith), t) (omega arith)
 
 -- there is none left
 pub none : (p : ℕ → Bool) (to : ℕ) (l : List ℕ) → firstNot p to to l ≡ to
-unfolding firstNot run
+unfolding firstNot leadingCount
 none p to l = let n : to - to ≡ 0 = omega arith in rw n (omega arith)
 
 -- the scan of a whole list
-pub first-run : (p : ℕ → Bool) (l : List ℕ) → firstNot p 0 (length l) l ≡ run p l
+pub first-run : (p : ℕ → Bool) (l : List ℕ) → firstNot p 0 (length l) l ≡ leadingCount p l
 unfolding firstNot
 first-run p l = let n : length l - 0 ≡ length l = omega arith in rw (n, take-length, zero-add)
 
@@ -42,10 +42,10 @@ pub more-le : (t : Bool) (k n : ℕ) → k ≤ n → oneMore t k ≤ suc n
 more-le true k n h = omega arith
 more-le false k n h = omega arith
 
-pub run-le : (t : ℕ → Bool) (xs : List ℕ) → run t xs ≤ length xs
-unfolding run
-run-le t [] = omega arith
-run-le t (x ∷ xs) = more-le (t x) _ _ (run-le t xs)
+pub leading-le : (t : ℕ → Bool) (xs : List ℕ) → leadingCount t xs ≤ length xs
+unfolding leadingCount
+leading-le t [] = omega arith
+leading-le t (x ∷ xs) = more-le (t x) _ _ (leading-le t xs)
 
 -- The invariant of a scan that goes up: what is sought from `from` on is sought j places on.
 pub record Seen (p : ℕ → Bool) (from n : ℕ) (l : List ℕ) (j : ℕ) : Type 0 where

@@ -11,7 +11,7 @@ use lib.ListN.{length, take, drop, replicate, length-append, length-take, length
 use lib.Seq.{take-add, drop-drop, take-at, drop-at, take-length}
 use Rattle.octets.specs.Parts.{part, putAt, filled}
 use Rattle.octets.specs.Numbers.{bigEndian, bytesOf, Below, Bytes, number, fields, unitBytes, unitsAt}
-use Rattle.octets.specs.Scans.{run, isZero, Every, fails}
+use Rattle.octets.specs.Scans.{leadingCount, isZero, Every, fails}
 use Rattle.octets.proofs.Lists.{length-part, part-take, put-over}
 use Rattle.octets.proofs.Digits.{length-bytesOf, bigEndian-fits, bytesOf-bigEndian, bigEndian-small}
 use Rattle.octets.proofs.AllBytes.{bytes-part}
@@ -64,33 +64,33 @@ pub stands-self : (xs : List ℕ) → Stands 0 xs xs
 stands-self xs = take-length xs
 
 -- zeros
-zeros-run : (xs : List ℕ) → Every isZero xs → xs ≡ replicate (length xs) 0
-unfolding run
-zeros-run [] e = refl
-zeros-run (x ∷ xs) e = go (isZero x) refl (zeros-run xs)
+zeros-leading : (xs : List ℕ) → Every isZero xs → xs ≡ replicate (length xs) 0
+unfolding leadingCount
+zeros-leading [] e = refl
+zeros-leading (x ∷ xs) e = go (isZero x) refl (zeros-leading xs)
   where
     go : (t : Bool) → isZero x ≡ t → (Every isZero xs → xs ≡ replicate (length xs) 0) → x ∷ xs ≡ 0 ∷ replicate (length xs) 0
     go true h ih =
-        let s : suc (run isZero xs) ≡ suc (length xs) = rw h at e in
-        let t : run isZero xs ≡ length xs = omega arith in
+        let s : suc (leadingCount isZero xs) ≡ suc (length xs) = rw h at e in
+        let t : leadingCount isZero xs ≡ length xs = omega arith in
         let a : x ≡ 0 = eqb-true x 0 h in
         cc (ih t)
     go false h ih = let z : 0 ≡ suc (length xs) = rw h at e in absurd (omega arith)
 
-run-zeros : (n : ℕ) → Every isZero (replicate n 0)
-unfolding run
-run-zeros zero = refl
-run-zeros (suc n) = ap suc (run-zeros n)
+leading-zeros : (n : ℕ) → Every isZero (replicate n 0)
+unfolding leadingCount
+leading-zeros zero = refl
+leading-zeros (suc n) = ap suc (leading-zeros n)
 
 -- n bytes that are zero, as a scan says it and as they are laid out
 zeros-stand : (p n : ℕ) (b : List ℕ) → p + n ≤ length b → Every isZero (part p n b) → Stands p (replicate n 0) b
 zeros-stand p n b h e =
     let l : length (part p n b) ≡ n = length-part p n b h in
-    let z : part p n b ≡ replicate n 0 = zeros-run (part p n b) e ∙ ap (λ (k : ℕ). replicate k 0) l in
+    let z : part p n b ≡ replicate n 0 = zeros-leading (part p n b) e ∙ ap (λ (k : ℕ). replicate k 0) l in
     rw (length-replicate, z)
 
 stand-zeros : (p n : ℕ) (b : List ℕ) → Stands p (replicate n 0) b → Every isZero (part p n b)
-stand-zeros p n b s = rw (stands-read p n (replicate n 0) b (length-replicate n 0) s) (run-zeros n)
+stand-zeros p n b s = rw (stands-read p n (replicate n 0) b (length-replicate n 0) s) (leading-zeros n)
 
 -- what is filled up with zeros
 pub length-filled : (n : ℕ) (xs : List ℕ) → length xs ≤ n → length (filled n xs) ≡ n

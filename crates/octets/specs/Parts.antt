@@ -34,8 +34,8 @@ abbrev pub padded : List ℕ → List ℕ
 padded xs = filled (up8 (length xs)) xs
 
 -- a buffer with the file `new` at its front, zeros up to place `end`, and from there on as it was
-unfoldable pub settled : List ℕ → ℕ → List ℕ → List ℕ
-settled new end buffer = filled end new ++ drop end buffer
+unfoldable pub filledFront : List ℕ → ℕ → List ℕ → List ℕ
+filledFront new end buffer = filled end new ++ drop end buffer
 
 -- a buffer whose first `end` bytes are a file, with xs in the place of the file's n bytes from place `at` on: what
 -- follows them is moved, and what is freed is zero

@@ -15,22 +15,22 @@ oneMore true n = suc n
 oneMore false n = 0
 
 -- how many elements at the front of the list pass the test
-unfoldable pub run : (ℕ → Bool) → List ℕ → ℕ
-run test [] = 0
-run test (x ∷ xs) = oneMore (test x) (run test xs)
+unfoldable pub leadingCount : (ℕ → Bool) → List ℕ → ℕ
+leadingCount test [] = 0
+leadingCount test (x ∷ xs) = oneMore (test x) (leadingCount test xs)
 
 -- every element passes: the run of those that do goes to the end
 abbrev pub Every : (ℕ → Bool) → List ℕ → Type 0
-Every test xs = run test xs ≡ length xs
+Every test xs = leadingCount test xs ≡ length xs
 
 -- some element fails the test
 abbrev pub fails : (ℕ → Bool) → List ℕ → Bool
-fails test xs = ltb (run test xs) (length xs)
+fails test xs = ltb (leadingCount test xs) (length xs)
 
 -- the first place from `from` on, before `to`, whose byte fails the test, or `to`: "Within one test the lowest place is
 -- named"
 unfoldable pub firstNot : (ℕ → Bool) → ℕ → ℕ → List ℕ → ℕ
-firstNot test from to list = from + run test (part from (to - from) list)
+firstNot test from to list = from + leadingCount test (part from (to - from) list)
 
 -- "flow and key characters are A, C, G, T"
 abbrev pub isFlowCharacter : ℕ → Bool

@@ -24,48 +24,48 @@ fn wide32(x: u8) -> u32
 }
 
 // The number of two bytes at `at`.
-pub fn get16(s: &[u8], at: usize) -> usize
-    requires { ⌜ at + 2 ≤ length (now s) ⌝ }
-    ensures { λ r. ⌜ (r ≡ number 2 at (now (s .entry))) × (r < 65536) ⌝ }
+pub fn get16(bytes: &[u8], at: usize) -> usize
+    requires { ⌜ at + 2 ≤ length (now bytes) ⌝ }
+    ensures { λ r. ⌜ (r ≡ number 2 at (now (bytes .entry))) × (r < 65536) ⌝ }
 {
-    wide(s[at]) * 256 + wide(s[at + 1])
+    wide(bytes[at]) * 256 + wide(bytes[at + 1])
 }
 
 // The number of four bytes at `at`. This sum of 32 bits becomes one load; one of `get16`s does not.
-fn four(s: &[u8], at: usize) -> u32
-    requires { ⌜ at + 4 ≤ length (now s) ⌝ }
-    ensures { λ r. ⌜ (r ≡ number 4 at (now (s .entry))) × (r < 4294967296) ⌝ }
+fn four(bytes: &[u8], at: usize) -> u32
+    requires { ⌜ at + 4 ≤ length (now bytes) ⌝ }
+    ensures { λ r. ⌜ (r ≡ number 4 at (now (bytes .entry))) × (r < 4294967296) ⌝ }
 {
-    wide32(s[at]) * 16777216
-        + wide32(s[at + 1]) * 65536
-        + wide32(s[at + 2]) * 256
-        + wide32(s[at + 3])
+    wide32(bytes[at]) * 16777216
+        + wide32(bytes[at + 1]) * 65536
+        + wide32(bytes[at + 2]) * 256
+        + wide32(bytes[at + 3])
 }
 
 // The number of four bytes at `at`.
-pub fn get32(s: &[u8], at: usize) -> usize
-    requires { ⌜ at + 4 ≤ length (now s) ⌝ }
-    ensures { λ r. ⌜ (r ≡ number 4 at (now (s .entry))) × (r < 4294967296) ⌝ }
+pub fn get32(bytes: &[u8], at: usize) -> usize
+    requires { ⌜ at + 4 ≤ length (now bytes) ⌝ }
+    ensures { λ r. ⌜ (r ≡ number 4 at (now (bytes .entry))) × (r < 4294967296) ⌝ }
 {
-    four(s, at) as usize
+    four(bytes, at) as usize
 }
 
 // The number of eight bytes at `at`.
-pub fn get64(s: &[u8], at: usize) -> usize
-    requires { ⌜ at + 8 ≤ length (now s) ⌝ }
-    ensures { λ r. ⌜ r ≡ number 8 at (now (s .entry)) ⌝ }
+pub fn get64(bytes: &[u8], at: usize) -> usize
+    requires { ⌜ at + 8 ≤ length (now bytes) ⌝ }
+    ensures { λ r. ⌜ r ≡ number 8 at (now (bytes .entry)) ⌝ }
 {
-    get32(s, at) * 4294967296 + get32(s, at + 4)
+    get32(bytes, at) * 4294967296 + get32(bytes, at + 4)
 }
 
 // Whether the n bytes of `bytes` from `at` on are those of `other` from `from` on.
-pub fn same_part(s: &[u8], at: usize, t: &[u8], from: usize, n: usize) -> bool
-    requires { ⌜ (at + n ≤ length (now s)) × (from + n ≤ length (now t)) ⌝ }
-    ensures { λ r. ⌜ r ≡ same (part at n (now (s .entry))) (part from n (now (t .entry))) ⌝ }
+pub fn same_part(bytes: &[u8], at: usize, other: &[u8], from: usize, n: usize) -> bool
+    requires { ⌜ (at + n ≤ length (now bytes)) × (from + n ≤ length (now other)) ⌝ }
+    ensures { λ r. ⌜ r ≡ same (part at n (now (bytes .entry))) (part from n (now (other .entry))) ⌝ }
 {
     let mut j = 0;
     while j < n {
-        if s[at + j] != t[from + j] {
+        if bytes[at + j] != other[from + j] {
             return false;
         }
         j += 1;
@@ -75,9 +75,9 @@ pub fn same_part(s: &[u8], at: usize, t: &[u8], from: usize, n: usize) -> bool
 
 // The first place from `from` on, before `to`, whose byte fails the test, or `to`. The loop counts to the number of
 // bytes: over the two places the compiler would compute that number again.
-pub fn first_not(test: ByteTest, s: &[u8], from: usize, to: usize) -> usize
-    requires { ⌜ (from ≤ to) × (to ≤ length (now s)) ⌝ }
-    ensures { λ r. ⌜ (r ≡ firstNot (passes test) from to (now (s .entry))) × (r ≤ to) ⌝ }
+pub fn first_not(test: ByteTest, bytes: &[u8], from: usize, to: usize) -> usize
+    requires { ⌜ (from ≤ to) × (to ≤ length (now bytes)) ⌝ }
+    ensures { λ r. ⌜ (r ≡ firstNot (passes test) from to (now (bytes .entry))) × (r ≤ to) ⌝ }
 {
     let n = to - from;
     let mut j = 0;
@@ -85,7 +85,7 @@ pub fn first_not(test: ByteTest, s: &[u8], from: usize, to: usize) -> usize
         if j >= n {
             break to;
         }
-        if !passes_test(test, s[from + j]) {
+        if !passes_test(test, bytes[from + j]) {
             break from + j;
         }
         j += 1;

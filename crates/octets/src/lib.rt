@@ -48,17 +48,17 @@ pub fn greatest32(a: u32, b: u32) -> u32
 }
 
 // The n bytes from `at` on, as a part of `bytes`; its empty front where they do not all lie there.
-pub fn stretch(s: &[u8], at: usize, n: usize) -> &[u8]
-    ensures { λ r. ⌜ now r ≡ wholePart at n (now (s .entry)) ⌝ }
+pub fn whole_part(bytes: &[u8], at: usize, n: usize) -> &[u8]
+    ensures { λ r. ⌜ now r ≡ wholePart at n (now (bytes .entry)) ⌝ }
 {
-    if at > s.len() {
-        return &s[..0];
+    if at > bytes.len() {
+        return &bytes[..0];
     }
-    if n > s.len() - at {
-        return &s[..0];
+    if n > bytes.len() - at {
+        return &bytes[..0];
     }
     let end = at + n;
-    &s[at..end]
+    &bytes[at..end]
 }
 
 fn passes_test(test: ByteTest, x: u8) -> bool
@@ -72,14 +72,14 @@ fn passes_test(test: ByteTest, x: u8) -> bool
 }
 
 // Whether some byte fails the test. No turn leaves the loop: so the compiler tests many bytes at a time.
-pub fn fails(test: ByteTest, s: &[u8]) -> bool
-    ensures { λ r. ⌜ r ≡ fails (passes test) (now (s .entry)) ⌝ }
+pub fn fails(test: ByteTest, bytes: &[u8]) -> bool
+    ensures { λ r. ⌜ r ≡ fails (passes test) (now (bytes .entry)) ⌝ }
 {
-    let n = s.len();
+    let n = bytes.len();
     let mut failed = false;
     let mut j = 0;
     while j < n {
-        failed = failed | !passes_test(test, s[j]);
+        failed = failed | !passes_test(test, bytes[j]);
         j += 1;
     }
     failed

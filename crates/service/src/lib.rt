@@ -1,8 +1,8 @@
 // Document 01's host: "A C service calls the whole-file test and the single correction on numbers and byte slices."
 // `include/sffstore.h` declares them to C.
-ghost use Rattle.host_calls.specs.Outs.{Tested, Corrected};
-use host_calls::correct_out;
-use host_calls::test_out;
+ghost use Rattle.service_calls.specs.Outs.{Tested, Corrected};
+use service_calls::correct_out;
+use service_calls::test_out;
 
 // The number of the first rule that the bytes break, 0 if they are a file that keeps them all; `place` is where.
 #[no_mangle]

@@ -21,25 +21,25 @@ use Rattle.sff_format.specs.Places.{readPlace}
 use Rattle.sff_format.proofs.FileLaid.{reads-counted}
 use Rattle.sff_format.proofs.Written.{layout-bytes}
 use Rattle.sff_format.proofs.Places.{place-found}
-use Rattle.sff_correction.specs.declared.ListOutcome.{ListOutcome}
-use Rattle.sff_correction.specs.declared.Fields.{Fields}
-use Rattle.sff_correction.specs.Record.{position, recordTest}
-use Rattle.sff_correction.specs.Fields.{fieldsAt, asked}
-use Rattle.sff_correction.specs.RecordLayout.{parseRecord}
-use Rattle.sff_correction.specs.Edit.{edited}
-use Rattle.sff_correction.specs.Reasons.{positionAbove, reasons}
-use Rattle.sff_correction.specs.Correct.{correctTest, corrected, correctOutcome, over, correctBuffer}
-use Rattle.sff_correction.specs.ListRun.{recordAt, Run, ran, turns, runList}
-use Rattle.sff_correction.proofs.Asked.{own-asked}
-use Rattle.sff_correction.proofs.Edited.{reasons-position, place-kept}
-use Rattle.sff_correction.proofs.Carried.{refused-outcome, refused-buffer, done-outcome, done-buffer, done-fits, done-length}
-use Rattle.sff_correction.proofs.Carried.{done-front, done-valid, done-accepted, done-parsed}
-use Rattle.sff_correction.proofs.Carried.{test-file, test-reasons, test-from-20, test-from-file, test-from-21}
-use Rattle.sff_correction.proofs.ListTurns.{turn-on, turn-stop, list-20, list-run, list-none}
+use Rattle.correction_format.specs.declared.ListOutcome.{ListOutcome}
+use Rattle.correction_format.specs.declared.Fields.{Fields}
+use Rattle.correction_format.specs.Record.{position, recordTest}
+use Rattle.correction_format.specs.Fields.{fieldsAt, asked}
+use Rattle.correction_format.specs.RecordLayout.{parseRecord}
+use Rattle.correction_format.specs.Edit.{edited}
+use Rattle.correction_format.specs.Reasons.{positionAbove, reasons}
+use Rattle.correction_format.specs.Correct.{correctTest, corrected, correctOutcome, fileReplaced, correctBuffer}
+use Rattle.correction_format.specs.ListRun.{recordAt, Run, ran, turns, runList}
+use Rattle.correction_format.proofs.Asked.{asked-of-record}
+use Rattle.correction_format.proofs.Edited.{reasons-position, place-kept}
+use Rattle.correction_format.proofs.Carried.{refused-outcome, refused-buffer, done-outcome, done-buffer, done-fits, done-length}
+use Rattle.correction_format.proofs.Carried.{done-front, done-valid, done-accepted, done-parsed}
+use Rattle.correction_format.proofs.Carried.{test-file, test-reasons, test-from-20, test-from-file, test-from-21}
+use Rattle.correction_format.proofs.ListTurns.{turn-on, turn-stop, list-20, list-run, list-none}
 use Rattle.sff_corrector.specs.declared.Carried.{Carried}
 use Rattle.sff_corrector.specs.declared.Carried.the-variants.{Out, Stopped}
 use Rattle.sff_corrector.specs.declared.Start.{Start}
-use Rattle.sff_corrector.specs.Carried.{outcomeOf, knownAt, Ready, Onward}
+use Rattle.sff_corrector.specs.Carried.{outcomeOf, knownAt, AcceptedFront, AcceptedAfter}
 
 -- what is told of a record that is refused
 module _ (buffer : List ℕ) (len : ℕ) (r : List ℕ) where
@@ -63,7 +63,7 @@ module _ (buffer : List ℕ) (len : ℕ) (r : List ℕ) where
       stop-file e t = sym (test-from-file buffer len r h q ∙ rw (← e, t))
 
   -- on an accepted file, where the record's own fields ask for what it says
-  module _ {from : Start} (s : Ready buffer len from) (q : recordTest r ≡ Accepted) (x : Fields) (o : x ≡ fieldsAt (position r) r) where
+  module _ {from : Start} (s : AcceptedFront buffer len from) (q : recordTest r ≡ Accepted) (x : Fields) (o : x ≡ fieldsAt (position r) r) where
     pub stop-21 : {t : Bool} → ((room : ℕ) → t ≡ positionAbove room (asked x r) (parse (take len buffer))) → t ≡ true
         → Refused 21 0 ≡ correctTest buffer len r
     unfolding reasons
@@ -71,15 +71,15 @@ module _ (buffer : List ℕ) (len : ℕ) (r : List ℕ) where
         sym
         (
         test-from-21 buffer len r (s .inside) q (s .accepted)
-        ∙ row-holds 21 _ _ (rw (← own-asked x r o) (sym (f (length buffer)) ∙ g))
+        ∙ row-holds 21 _ _ (rw (← asked-of-record x r o) (sym (f (length buffer)) ∙ g))
         )
 
     pub reasons-are : {a : Answer} → a ≡ reasons (length buffer) (asked x r) (parse (take len buffer)) → a ≡ correctTest buffer len r
-    reasons-are e = rw (own-asked x r o) at e ∙ sym (test-from-21 buffer len r (s .inside) q (s .accepted))
+    reasons-are e = rw (asked-of-record x r o) at e ∙ sym (test-from-21 buffer len r (s .inside) q (s .accepted))
 
   -- what is told of one that is carried out, and what it leaves for the next
   module _ (e : Accepted ≡ correctTest buffer len r) where
-    pub done : {n : ℕ} {b : List ℕ} → n ≡ length (corrected buffer len r) → b ≡ over (corrected buffer len r) len buffer
+    pub done : {n : ℕ} {b : List ℕ} → n ≡ length (corrected buffer len r) → b ≡ fileReplaced (corrected buffer len r) len buffer
         → (record { answer = Accepted; length = n } ≡ correctOutcome buffer len r) × (b ≡ correctBuffer buffer len r)
     done m f = (rw m (sym (done-outcome buffer len r (sym e))), f ∙ sym (done-buffer buffer len r (sym e)))
 
@@ -110,8 +110,8 @@ module _ (buffer : List ℕ) (len : ℕ) (r : List ℕ) where
           ∙ rw parsed (place-kept (parseRecord r) file (omega arith))
           )
 
-      pub ready : {n : ℕ} {b : List ℕ} {q i : ℕ} → n ≡ length (corrected buffer len r) → b ≡ over (corrected buffer len r) len buffer
-          → i ≡ position r → q ≡ readPlace (take len buffer) i → Ready b n (knownAt i q)
+      pub ready : {n : ℕ} {b : List ℕ} {q i : ℕ} → n ≡ length (corrected buffer len r) → b ≡ fileReplaced (corrected buffer len r) len buffer
+          → i ≡ position r → q ≡ readPlace (take len buffer) i → AcceptedFront b n (knownAt i q)
       ready {n} {b} {q} {i} m f k g =
           rw (m, f)
           (
@@ -131,7 +131,7 @@ module _ (buffer : List ℕ) (len : ℕ) (r : List ℕ) where
 pub told-as : (len : ℕ) {v w : Carried} {o : Outcome} → v ≡ w → outcomeOf len v ≡ o → outcomeOf len w ≡ o
 told-as len c e = sym (ap (outcomeOf len) c) ∙ e
 
-pub out-ready : {b : List ℕ} {v : Carried} {n i p : ℕ} → v ≡ Out n i p → Onward b v → Ready b n (knownAt i p)
+pub out-ready : {b : List ℕ} {v : Carried} {n i p : ℕ} → v ≡ Out n i p → AcceptedAfter b v → AcceptedFront b n (knownAt i p)
 out-ready c o = rw c at o
 
 -- the record at position k of a list was tried, and m come after it
@@ -148,7 +148,7 @@ module _ (b : List ℕ) (len : ℕ) (l : List ℕ) (k : ℕ) (v : Carried) {b′
       let r : List ℕ = recordAt k l in
       let t = tested c in
       let n : x ≡ length (corrected b len r) = ap (λ (o : Outcome). o .length) (told-as len c e ∙ done-outcome b len r t) in
-      let eb : b′ ≡ over (corrected b len r) len b = f ∙ done-buffer b len r t in
+      let eb : b′ ≡ fileReplaced (corrected b len r) len b = f ∙ done-buffer b len r t in
       turn-on m k b len l t ∙ rw (n, eb)
 
   tried-stop : (m : ℕ) {x p : ℕ} → v ≡ Stopped x p → turns (suc m) k b len l ≡ ran k (Refused x p) len b′
@@ -157,38 +157,38 @@ module _ (b : List ℕ) (len : ℕ) (l : List ℕ) (k : ℕ) (v : Carried) {b′
       turn-stop m k b len l x p (tested c) ∙ ap (ran k (Refused x p) len) (sym eb)
 
 -- The invariant of the loop over a list: k records are carried out, and what is to come is the rest.
-pub record Going (n : ℕ) (b₀ : List ℕ) (len₀ : ℕ) (l b : List ℕ) (k len i p : ℕ) : Type 0 where
+pub record ListInvariant (n : ℕ) (b₀ : List ℕ) (len₀ : ℕ) (l b : List ℕ) (k len i p : ℕ) : Type 0 where
   pub low : k ≤ n
   pub whole : 96 * n ≤ length l
   pub same : length b ≡ length b₀
-  pub ready : Ready b len (knownAt i p)
+  pub ready : AcceptedFront b len (knownAt i p)
   pub is : turns (n - 1) 1 b₀ len₀ l ≡ turns (n - k) k b len l
 
-pub going-start : (n : ℕ) (b : List ℕ) (len : ℕ) (l : List ℕ) (i p : ℕ) → 1 ≤ n → 96 * n ≤ length l → Ready b len (knownAt i p)
-    → Going n b len l b 1 len i p
-going-start n b len l i p h w s = record { low = h; whole = w; same = refl; ready = s; is = refl }
+pub list-start : (n : ℕ) (b : List ℕ) (len : ℕ) (l : List ℕ) (i p : ℕ) → 1 ≤ n → 96 * n ≤ length l → AcceptedFront b len (knownAt i p)
+    → ListInvariant n b len l b 1 len i p
+list-start n b len l i p h w s = record { low = h; whole = w; same = refl; ready = s; is = refl }
 
 -- what a run told so far
 told : {count : ℕ} {a : Answer} {len : ℕ} {b : List ℕ} {t : Run} → t ≡ ran count a len b
     → (record { count = count; answer = a; length = len } ≡ t .outcome) × (b ≡ t .buffer)
 told e = (sym (ap (λ (x : Run). x .outcome) e), sym (ap (λ (x : Run). x .buffer) e))
 
-module _ {n : ℕ} {b₀ : List ℕ} {len₀ : ℕ} {l b : List ℕ} {k len i p : ℕ} (g : Going n b₀ len₀ l b k len i p) where
-  pub going-done : n ≤ k
+module _ {n : ℕ} {b₀ : List ℕ} {len₀ : ℕ} {l b : List ℕ} {k len i p : ℕ} (g : ListInvariant n b₀ len₀ l b k len i p) where
+  pub list-done : n ≤ k
       → (record { count = k; answer = Accepted; length = len } ≡ turns (n - 1) 1 b₀ len₀ l .outcome) × (b ≡ turns (n - 1) 1 b₀ len₀ l .buffer)
   unfolding turns
-  going-done h = let z : n - k ≡ 0 = omega arith in told (g .is ∙ rw z)
+  list-done h = let z : n - k ≡ 0 = omega arith in told (g .is ∙ rw z)
 
-  pub going-room : k < n → 96 * k + 96 ≤ length l
-  going-room h = let w = g .whole in omega arith
+  pub list-room : k < n → 96 * k + 96 ≤ length l
+  list-room h = let w = g .whole in omega arith
 
   module _ (h : k < n) (v : Carried) {b′ : List ℕ}
       (e : outcomeOf len v ≡ correctOutcome b len (recordAt k l)) (f : b′ ≡ correctBuffer b len (recordAt k l)) where
     next : n - k ≡ suc (n - (k + 1))
     next = omega arith
 
-    pub going-more : {x j q : ℕ} → v ≡ Out x j q → Onward b′ v → Going n b₀ len₀ l b′ (k + 1) x j q
-    going-more {x} {j} {q} c o =
+    pub list-more : {x j q : ℕ} → v ≡ Out x j q → AcceptedAfter b′ v → ListInvariant n b₀ len₀ l b′ (k + 1) x j q
+    list-more {x} {j} {q} c o =
         let u : turns (n - k) k b len l ≡ turns (n - (k + 1)) (k + 1) b′ x l =
         ap (λ (i : ℕ). turns i k b len l) next ∙ tried-on b len l k v e f (n - (k + 1)) c ∙ rw (add-one k) in
         record {
@@ -199,9 +199,9 @@ module _ {n : ℕ} {b₀ : List ℕ} {len₀ : ℕ} {l b : List ℕ} {k len i p 
           is = g .is ∙ u;
         }
 
-    pub going-stop : {x p : ℕ} → v ≡ Stopped x p
+    pub list-stop : {x p : ℕ} → v ≡ Stopped x p
         → (record { count = k; answer = Refused x p; length = len } ≡ turns (n - 1) 1 b₀ len₀ l .outcome) × (b′ ≡ turns (n - 1) 1 b₀ len₀ l .buffer)
-    going-stop c = told (g .is ∙ ap (λ (i : ℕ). turns i k b len l) next ∙ tried-stop b len l k v e f (n - (k + 1)) c)
+    list-stop c = told (g .is ∙ ap (λ (i : ℕ). turns i k b len l) next ∙ tried-stop b len l k v e f (n - (k + 1)) c)
 
 -- a list before its loop
 module _ (b : List ℕ) (len : ℕ) (l : List ℕ) where

@@ -27,12 +27,12 @@ abbrev pub knownAt : ℕ → ℕ → Start
 knownAt position place = Known (record { position = position; place = place })
 
 -- an accepted file of `len` bytes stands at the front of the buffer: the next record needs no test of it
-pub record Ready (buffer : List ℕ) (len : ℕ) (from : Start) : Type 0 where
+pub record AcceptedFront (buffer : List ℕ) (len : ℕ) (from : Start) : Type 0 where
   pub inside : len ≤ length buffer
   pub accepted : fileTest (take len buffer) ≡ Accepted
   pub start : StartIn (take len buffer) from
 
 -- after a record that was carried out, the buffer is ready for the next
-abbrev pub Onward : List ℕ → Carried → Type 0
-Onward buffer (Out new position place) = Ready buffer new (knownAt position place)
-Onward buffer (Stopped number place) = Unit {0}
+abbrev pub AcceptedAfter : List ℕ → Carried → Type 0
+AcceptedAfter buffer (Out new position place) = AcceptedFront buffer new (knownAt position place)
+AcceptedAfter buffer (Stopped number place) = Unit {0}

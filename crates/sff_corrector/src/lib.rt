@@ -8,14 +8,14 @@ ghost use Rattle.answers.specs.declared.Answer.the-variants.{Accepted};
 ghost use Rattle.sff_format.specs.HeaderTest.{readCount};
 ghost use Rattle.sff_format.specs.FileTest.{fileTest};
 ghost use Rattle.sff_format.specs.Places.{readPlace};
-ghost use Rattle.sff_correction.specs.Record.{recordTest};
-ghost use Rattle.sff_correction.specs.Correct.{correctOutcome, correctBuffer};
-ghost use Rattle.sff_correction.specs.ListRun.{turns, runList};
-ghost use Rattle.sff_corrector.specs.Carried.{outcomeOf, StartIn, knownAt, Ready, Onward};
+ghost use Rattle.correction_format.specs.Record.{recordTest};
+ghost use Rattle.correction_format.specs.Correct.{correctOutcome, correctBuffer};
+ghost use Rattle.correction_format.specs.ListRun.{turns, runList};
+ghost use Rattle.sff_corrector.specs.Carried.{outcomeOf, StartIn, knownAt, AcceptedFront, AcceptedAfter};
 use answers::Answer;
-use sff::file_test;
-use sff_correction::ListOutcome;
+use correction_format::ListOutcome;
 use sff_edit::inner::apply;
+use sff_file::file_test;
 use sff_find::inner::Mark;
 use sff_find::inner::find;
 use sff_find::inner::find_on;
@@ -38,25 +38,25 @@ enum Start {
 }
 
 // Where the read at a position of an accepted file starts.
-fn find_from(s: &[u8], from: Start, position: usize) -> usize
-    requires { ⌜ fileTest (now s) ≡ Accepted ⌝ }
-    requires { ⌜ position < readCount (now s) ⌝ }
-    requires { ⌜ StartIn (now s) from ⌝ }
-    ensures { λ r. ⌜ r ≡ readPlace (now (s .entry)) position ⌝ }
+fn find_from(file: &[u8], from: Start, position: usize) -> usize
+    requires { ⌜ fileTest (now file) ≡ Accepted ⌝ }
+    requires { ⌜ position < readCount (now file) ⌝ }
+    requires { ⌜ StartIn (now file) from ⌝ }
+    ensures { λ r. ⌜ r ≡ readPlace (now (file .entry)) position ⌝ }
 {
     match from {
-        Start::Header => find(s, position),
-        Start::Known(mark) => find_on(s, mark, position),
+        Start::Header => find(file, position),
+        Start::Known(mark) => find_on(file, mark, position),
     }
 }
 
 // A well-formed record on an accepted file: the position (21), and the reasons after it.
 fn carry_out(buffer: &mut [u8], len: usize, record: &[u8], from: Start) -> Carried
-    requires { ⌜ Ready (now buffer) len from ⌝ }
+    requires { ⌜ AcceptedFront (now buffer) len from ⌝ }
     requires { ⌜ recordTest (now «record») ≡ Accepted ⌝ }
     ensures { λ r. ⌜ outcomeOf len r ≡ correctOutcome (now (buffer .entry)) len (now («record» .entry)) ⌝ }
     ensures { λ r. ⌜ now (buffer .exit) ≡ correctBuffer (now (buffer .entry)) len (now («record» .entry)) ⌝ }
-    ensures { λ r. ⌜ Onward (now (buffer .exit)) r ⌝ }
+    ensures { λ r. ⌜ AcceptedAfter (now (buffer .exit)) r ⌝ }
 {
     let room = buffer.len();
     let fields = record_fields(record);
@@ -77,7 +77,7 @@ fn carry_out(buffer: &mut [u8], len: usize, record: &[u8], from: Start) -> Carri
 fn carry_first(buffer: &mut [u8], len: usize, record: &[u8]) -> Carried
     ensures { λ r. ⌜ outcomeOf len r ≡ correctOutcome (now (buffer .entry)) len (now («record» .entry)) ⌝ }
     ensures { λ r. ⌜ now (buffer .exit) ≡ correctBuffer (now (buffer .entry)) len (now («record» .entry)) ⌝ }
-    ensures { λ r. ⌜ Onward (now (buffer .exit)) r ⌝ }
+    ensures { λ r. ⌜ AcceptedAfter (now (buffer .exit)) r ⌝ }
 {
     if len > buffer.len() {
         return Carried::Stopped(14, 0);
@@ -100,11 +100,11 @@ fn carry_next(
     position: usize,
     place: usize,
 ) -> Carried
-    requires { ⌜ Ready (now buffer) len (knownAt position place) ⌝ }
+    requires { ⌜ AcceptedFront (now buffer) len (knownAt position place) ⌝ }
     requires { ⌜ at + 96 ≤ length (now list) ⌝ }
     ensures { λ r. ⌜ outcomeOf len r ≡ correctOutcome (now (buffer .entry)) len (part at 96 (now (list .entry))) ⌝ }
     ensures { λ r. ⌜ now (buffer .exit) ≡ correctBuffer (now (buffer .entry)) len (part at 96 (now (list .entry))) ⌝ }
-    ensures { λ r. ⌜ Onward (now (buffer .exit)) r ⌝ }
+    ensures { λ r. ⌜ AcceptedAfter (now (buffer .exit)) r ⌝ }
 {
     let end = at + 96;
     if let Answer::Refused(number, place) = record_test(&list[at..end]) {
@@ -124,7 +124,7 @@ fn run(
     first: usize,
     start: usize,
 ) -> ListOutcome
-    requires { ⌜ Ready (now buffer) len (knownAt first start) ⌝ }
+    requires { ⌜ AcceptedFront (now buffer) len (knownAt first start) ⌝ }
     requires { ⌜ (1 ≤ n) × (96 * n ≤ length (now list)) ⌝ }
     ensures { λ r. ⌜ r ≡ turns (n - 1) 1 (now (buffer .entry)) len (now (list .entry)) .outcome ⌝ }
     ensures { λ _. ⌜ now (buffer .exit) ≡ turns (n - 1) 1 (now (buffer .entry)) len (now (list .entry)) .buffer ⌝ }

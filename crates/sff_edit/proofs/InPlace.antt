@@ -9,13 +9,13 @@ use native.Mathlib.Omega.{arith}
 use borrow.Author.Tests.{eq-eqb}
 use lib.ListN.{length, take, drop, length-append, length-take, length-drop}
 use lib.Seq.{length-take-le, take-length, take-take, take-at, drop-at}
-use Rattle.octets.specs.Parts.{part, putAt, filled, settled, spliced, up8}
+use Rattle.octets.specs.Parts.{part, putAt, filled, filledFront, spliced, up8}
 use Rattle.octets.specs.Numbers.{Bytes, number, bytesOf, fields, words, unitBytes, unitsAt, wordsAt}
 use Rattle.octets.proofs.Lists.{length-put, put-over, put-next, length-part}
 use Rattle.octets.proofs.Digits.{length-bytesOf}
 use Rattle.octets.proofs.Inserts.{drop-rest}
 use Rattle.octets.proofs.Stands.{stands-read, units-stand, length-units, length-fields, length-filled, field-filled, number-take}
-use Rattle.octets.proofs.Settled.{settled-front, settled-put, splice-settled}
+use Rattle.octets.proofs.FilledFront.{filled-front-front, filled-front-put, splice-filled-front}
 use Rattle.answers.specs.declared.Answer.the-variants.{Accepted}
 use Rattle.sff_format.specs.Model.{Read, noIndex, readFields, layoutReadHeader, layoutReadData, layoutRead, layoutReads, layout, withReads}
 use Rattle.sff_format.specs.HeaderTest.{readCount, flows, flowCharacters, headerTest}
@@ -29,24 +29,24 @@ use Rattle.sff_format.proofs.FileLaid.{head-ok, ends, reads-counted, file-laid}
 use Rattle.sff_format.proofs.ReadLaid.{fits-16, section-is, section-fits, data-fits}
 use Rattle.sff_format.proofs.Places.{read-found, read-split, read-changed, read-gone}
 use Rattle.sff_format.proofs.Positions.{read-accepted}
-use Rattle.sff_correction.specs.declared.Fields.{Fields}
-use Rattle.sff_correction.specs.Record.{newLength, newName, recordTest}
-use Rattle.sff_correction.specs.Correction.{rename, remove, isClips}
-use Rattle.sff_correction.specs.RecordLayout.{changeIn}
-use Rattle.sff_correction.specs.Fields.{FieldsOf, asked}
-use Rattle.sff_correction.specs.Edit.{clipped, renamed, instead, target, edited}
-use Rattle.sff_correction.specs.Reasons.{reasons}
-use Rattle.sff_correction.specs.Correct.{over}
-use Rattle.sff_correction.proofs.Records.{record-96, new-size, new-zeros}
-use Rattle.sff_correction.proofs.Asked.{kind-of, clips-asked, rename-asked, remove-asked, new-length-of, new-inside}
-use Rattle.sff_correction.proofs.Edited.{clipped-size, reasons-position, reasons-index, reasons-room}
-use Rattle.sff_correction.proofs.EditedSizes.{clips-size, name-size, edited-length}
+use Rattle.correction_format.specs.declared.Fields.{Fields}
+use Rattle.correction_format.specs.Record.{newLength, newName, recordTest}
+use Rattle.correction_format.specs.Correction.{rename, remove, isClips}
+use Rattle.correction_format.specs.RecordLayout.{changeIn}
+use Rattle.correction_format.specs.Fields.{FieldsOf, asked}
+use Rattle.correction_format.specs.Edit.{clipped, renamed, replacement, target, edited}
+use Rattle.correction_format.specs.Reasons.{reasons}
+use Rattle.correction_format.specs.Correct.{fileReplaced}
+use Rattle.correction_format.proofs.Records.{record-96, new-size, new-zeros}
+use Rattle.correction_format.proofs.Asked.{kind-of, clips-asked, rename-asked, remove-asked, new-length-of, new-inside}
+use Rattle.correction_format.proofs.Edited.{clipped-size, reasons-position, reasons-index, reasons-room}
+use Rattle.correction_format.proofs.EditedSizes.{clips-size, name-size, edited-length}
 use Rattle.sff_edit.specs.Edits.{afresh, clippedAt, nameRoom, renamedAt, removedAt}
 
 -- a write within a file that lies over another
-over-put : (at : ℕ) (xs new : List ℕ) (len : ℕ) (b : List ℕ) → at + length xs ≤ length new → putAt at xs (over new len b) ≡ over (putAt at xs new) len b
+over-put : (at : ℕ) (xs new : List ℕ) (len : ℕ) (b : List ℕ) → at + length xs ≤ length new → putAt at xs (fileReplaced new len b) ≡ fileReplaced (putAt at xs new) len b
 over-put at xs new len b h =
-    settled-put at xs new (max len (length new)) b h ∙ ap (λ (n : ℕ). settled (putAt at xs new) (max len n) b) (sym (length-put at xs new h))
+    filled-front-put at xs new (max len (length new)) b h ∙ ap (λ (n : ℕ). filledFront (putAt at xs new) (max len n) b) (sym (length-put at xs new h))
 
 -- a read's header section: two lengths, the number of bases, the clips, the name with its padding
 abbrev lengths : ℕ → List ℕ
@@ -104,7 +104,7 @@ unfolding removedAt
 read-cut p size len b e₁ e₂ e₃ = e₃ ∙ rw (e₁, e₂)
 
 -- An accepted file in a buffer, a well-formed record for which no reason holds, its fields, and the place of its read.
-pub record Ready (buffer : List ℕ) (len p : ℕ) (x : Fields) (r : List ℕ) : Type 0 where
+pub record ReadyToEdit (buffer : List ℕ) (len p : ℕ) (x : Fields) (r : List ℕ) : Type 0 where
   pub inside : len ≤ length buffer
   pub bytes : Bytes (take len buffer)
   pub accepted : fileTest (take len buffer) ≡ Accepted
@@ -113,7 +113,7 @@ pub record Ready (buffer : List ℕ) (len p : ℕ) (x : Fields) (r : List ℕ) :
   pub place-is : p ≡ readPlace (take len buffer) (x .position)
   pub fine : reasons (length buffer) (asked x r) (parse (take len buffer)) ≡ Accepted
 
-module _ {buffer : List ℕ} {len p : ℕ} {x : Fields} {r : List ℕ} (s : Ready buffer len p x r) where
+module _ {buffer : List ℕ} {len p : ℕ} {x : Fields} {r : List ℕ} (s : ReadyToEdit buffer len p x r) where
   abbrev file : List ℕ
   file = take len buffer
 
@@ -191,8 +191,8 @@ module _ {buffer : List ℕ} {len p : ℕ} {x : Fields} {r : List ℕ} (s : Read
   laid : length (layout (parse file)) ≡ len
   laid = ap length (file-laid file (s .bytes) (s .accepted)) ∙ size
 
-  held : over file len buffer ≡ buffer
-  held = let m : max len (length file) ≡ len = omega (arith, size) in rw m (settled-front file len buffer refl (s .inside))
+  held : fileReplaced file len buffer ≡ buffer
+  held = let m : max len (length file) ≡ len = omega (arith, size) in rw m (filled-front-front file len buffer refl (s .inside))
 
   -- new clips
   module _ (k : x .kind ≡ 1) where
@@ -203,7 +203,7 @@ module _ {buffer : List ℕ} {len p : ℕ} {x : Fields} {r : List ℕ} (s : Read
     clipped-read = clipped (x .«quality_left») (x .«quality_right») (x .«adapter_left») (x .«adapter_right») read
 
     afresh-clips : new ≡ front ++ (layoutRead clipped-read ++ back)
-    unfolding edited instead
+    unfolding edited replacement
     afresh-clips = rw (clips-asked x r (s .fields-are) k) (changed clipped-read (inl (clipped-size _ _ _ _ read)))
 
     clipped-file : putAt (p + 8) new-clips file ≡ new
@@ -217,13 +217,13 @@ module _ {buffer : List ℕ} {len p : ℕ} {x : Fields} {r : List ℕ} (s : Read
         let f : u ++ (new-clips ++ w) ≡ new = sym (afresh-clips ∙ pieces front clipped-read back ∙ simp append-assoc) in
         ap (putAt (p + 8) new-clips) e ∙ (rw l at (put-over u new-clips (clip-bytes read) w m)) ∙ f
 
-    pub clips-done : Bytes r → {field b : List ℕ} → field ≡ part 8 8 r → b ≡ clippedAt p field buffer → (len ≡ length new) × (b ≡ over new len buffer)
+    pub clips-done : Bytes r → {field b : List ℕ} → field ≡ part 8 8 r → b ≡ clippedAt p field buffer → (len ≡ length new) × (b ≡ fileReplaced new len buffer)
     clips-done z f g =
         let e = g ∙ ap (λ (xs : List ℕ). putAt (p + 8) xs buffer) (f ∙ clips-field x r (s .fields-are) z (record-96 r (s .formed))) in
         let n : length new-clips ≡ 8 = length-units 2 _ in (
           sym (clips-size (asked x r) (parse file) counted _ _ _ _ (clips-asked x r (s .fields-are) k) ∙ laid),
           e ∙ ap (putAt (p + 8) new-clips) (sym held) ∙ over-put (p + 8) new-clips file len buffer (omega (arith, ready-start))
-              ∙ ap (λ (l : List ℕ). over l len buffer) clipped-file,
+              ∙ ap (λ (l : List ℕ). fileReplaced l len buffer) clipped-file,
         )
 
   -- another change: there is no index
@@ -269,7 +269,7 @@ module _ {buffer : List ℕ} {len p : ℕ} {x : Fields} {r : List ℕ} (s : Read
     spliced-file = take (p + 16) file ++ (name-padded name ++ drop (p + 16 + old-room) file)
 
     afresh-name : new ≡ front ++ (layoutRead renamed-read ++ back)
-    unfolding edited instead
+    unfolding edited replacement
     afresh-name = rw asks (changed renamed-read (inr (none (ap isClips asks))))
 
     name-after : length new + sectionLength buffer p ≡ len + up8 (16 + x .«new_length»)
@@ -311,16 +311,16 @@ module _ {buffer : List ℕ} {len p : ℕ} {x : Fields} {r : List ℕ} (s : Read
 
     pub name-done : {v : ℕ} {field b : List ℕ} → field ≡ part 56 40 r
         → v ≡ len - sectionLength buffer p + up8 (16 + x .«new_length») → b ≡ renamedAt p len (x .«new_length») field buffer
-        → (v ≡ length new) × (b ≡ over new len buffer)
+        → (v ≡ length new) × (b ≡ fileReplaced new len buffer)
     unfolding renamedAt
     name-done g t e =
         let h : p + 16 ≤ length spliced-file = simp (length-append, length-take) (omega (arith, ready-read, s .inside)) in
-        let j : spliced (p + 16) old-room len (name-padded name) buffer ≡ over spliced-file len buffer =
-        splice-settled (p + 16) old-room len (name-padded name) buffer (omega (arith, section-least, section-inside)) (s .inside) in
+        let j : spliced (p + 16) old-room len (name-padded name) buffer ≡ fileReplaced spliced-file len buffer =
+        splice-filled-front (p + 16) old-room len (name-padded name) buffer (omega (arith, section-least, section-inside)) (s .inside) in
         let m : length (lengths (length name)) ≡ 4 = simp (length-append, length-bytesOf) in (
           omega (arith, name-after, section-inside),
           e ∙ rw (g, field-padded, j, name-size-is)
-              (over-put p (lengths (length name)) spliced-file len buffer (omega arith) ∙ ap (λ (l : List ℕ). over l len buffer) renamed-file),
+              (over-put p (lengths (length name)) spliced-file len buffer (omega arith) ∙ ap (λ (l : List ℕ). fileReplaced l len buffer) renamed-file),
         )
 
   -- the read left out
@@ -338,15 +338,15 @@ module _ {buffer : List ℕ} {len p : ℕ} {x : Fields} {r : List ℕ} (s : Read
     fewer = simp (length-append, length-take, length-drop) (omega (arith, reads-counted file, number-is 4 20 (omega (arith, ready-header)), below))
 
     removed-file : putAt 20 (bytesOf 4 (readCount buffer - 1)) left ≡ new
-    unfolding edited instead
+    unfolding edited replacement
     removed-file =
         let g = read-gone file (s .bytes) (s .accepted) (x .position) below (none (ap isClips gone)) in
         sym (rw gone (rw (fewer, ← s .place-is) at g))
 
     none-after : length new + length (layoutRead read) ≡ len
-    unfolding instead layoutReads
+    unfolding replacement layoutReads
     none-after =
-        let n : length (layoutReads (instead (changeIn r) read)) ≡ 0 = rw gone in
+        let n : length (layoutReads (replacement (changeIn r) read)) ≡ 0 = rw gone in
         omega (arith, edited-length (asked x r) (parse file) counted, n, laid)
 
     -- the end of the read, as the code finds it
@@ -357,7 +357,7 @@ module _ {buffer : List ℕ} {len p : ℕ} {x : Fields} {r : List ℕ} (s : Read
       pub end-inside : (p ≤ n) × (p + (n - p) ≤ len)
       end-inside = (omega (arith, end-is), omega (arith, end-is, read-inside))
 
-      pub none-done : {v : ℕ} {b : List ℕ} → v ≡ len - (n - p) → b ≡ removedAt p (n - p) len buffer → (v ≡ length new) × (b ≡ over new len buffer)
+      pub none-done : {v : ℕ} {b : List ℕ} → v ≡ len - (n - p) → b ≡ removedAt p (n - p) len buffer → (v ≡ length new) × (b ≡ fileReplaced new len buffer)
       unfolding removedAt
       none-done t e =
           let j : n - p ≡ length (layoutRead read) = omega (arith, end-is) in
@@ -366,6 +366,6 @@ module _ {buffer : List ℕ} {len p : ℕ} {x : Fields} {r : List ℕ} (s : Read
           let g = length-header (edited (asked x r) (parse file)) in
           let i : 20 + length (bytesOf 4 (readCount buffer - 1)) ≤ length left = rw length-bytesOf (omega (arith, none-after)) in (
             omega (arith, none-after, j),
-            e ∙ rw (j, splice-settled p (length (layoutRead read)) len [] buffer read-inside (s .inside))
-                (over-put 20 (bytesOf 4 (readCount buffer - 1)) left len buffer i ∙ ap (λ (l : List ℕ). over l len buffer) removed-file),
+            e ∙ rw (j, splice-filled-front p (length (layoutRead read)) len [] buffer read-inside (s .inside))
+                (over-put 20 (bytesOf 4 (readCount buffer - 1)) left len buffer i ∙ ap (λ (l : List ℕ). fileReplaced l len buffer) removed-file),
           )

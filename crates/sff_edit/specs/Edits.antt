@@ -9,8 +9,8 @@ use Rattle.sff_format.specs.Model.{layout}
 use Rattle.sff_format.specs.HeaderTest.{readCount}
 use Rattle.sff_format.specs.ReadTest.{sectionLength}
 use Rattle.sff_format.specs.Parse.{parse}
-use Rattle.sff_correction.specs.Correction.{Correction}
-use Rattle.sff_correction.specs.Edit.{edited}
+use Rattle.correction_format.specs.Correction.{Correction}
+use Rattle.correction_format.specs.Edit.{edited}
 
 -- the file as a correction leaves it, written afresh
 abbrev pub afresh : Correction → ℕ → List ℕ → List ℕ

@@ -17,7 +17,7 @@ use Rattle.sff_format.specs.Model.{Read, noIndex, layoutRead, layout, wi
 use Rattle.sff_format.specs.Valid.{Valid}
 use Rattle.sff_format.specs.HeaderTest.{indexOffset, indexLength, readCount, flowCharacters, keyCharacters}
 use Rattle.sff_format.specs.FileTest.{fileTest}
-use Rattle.sff_format.specs.Writing.{givenTest, openTest, appendTest, appendOutcome, appendBuffer, Lent}
+use Rattle.sff_format.specs.Writing.{givenTest, openTest, appendTest, appendOutcome, appendBuffer, FitsSlices}
 use Rattle.answers.proofs.Answers.{first-ok, second-ok, both-ok, when-ok, ok-when, under-ok, ok-under}
 use Rattle.sff_format.proofs.Sizes.{length-header}
 use Rattle.sff_format.proofs.Appended.{layout-plain, appended}
@@ -136,7 +136,7 @@ module _ (buffer : List ℕ) (len : ℕ) (read : Read) (y : Bytes (take len buff
       append-left buffer len read a ∙ (rw (laid, length-old, itself, reads-counted old) at put) ∙ rw same-model
 
   -- and that file keeps the rules
-  pub append-valid : Lent read → Valid (withReads (parse old .reads ++ (read ∷ [])) (parse old))
+  pub append-valid : FitsSlices read → Valid (withReads (parse old .reads ++ (read ∷ [])) (parse old))
   unfolding parse
   append-valid t =
       let v = file-valid old y (c .accepted) in

@@ -14,8 +14,8 @@ use Rattle.answers.specs.declared.Answer.the-variants.{Accepted}
 use Rattle.sff_format.specs.Model.{Read}
 use Rattle.sff_format.specs.Valid.{ValidRead}
 use Rattle.sff_format.specs.ReadTest.{clipTest}
-use Rattle.sff_format.specs.Writing.{badCounts, givenTest, Lent}
-use Rattle.answers.proofs.Answers.{first-ok, second-ok, both-ok, when-ok, ok-when, under-ok, ok-under, own-ok, ok-own, or-left, or-right}
+use Rattle.sff_format.specs.Writing.{badCounts, givenTest, FitsSlices}
+use Rattle.answers.proofs.Answers.{first-ok, second-ok, both-ok, when-ok, ok-when, under-ok, ok-under, zero-place-ok, ok-zero-place, or-left, or-right}
 use Rattle.sff_format.proofs.Bases.{walk-ok, calls-ok, ok-bases}
 
 -- the counts, which 30 refuses where they differ
@@ -44,13 +44,13 @@ small-name : (n : ℕ) → up8 (16 + n) < 65536 → n ≤ 65512
 small-name n h = omega arith
 
 module _ (characters : List ℕ) (r : Read) where
-  pub given-valid : Lent r → givenTest characters r ≡ Accepted → ValidRead characters r
+  pub given-valid : FitsSlices r → givenTest characters r ≡ Accepted → ValidRead characters r
   unfolding givenTest clipTest
   given-valid g e =
       let c = counts-ok (length (r .values)) (length characters) (length (r .increments)) (length (r .bases)) (length (r .qualities)) (when-ok _ _ _ (first-ok _ _ e)) in
       let rest = second-ok _ _ (second-ok _ _ (second-ok _ _ e)) in
-      let clip = own-ok _ (first-ok _ _ rest) in
-      let bases = own-ok _ (second-ok _ _ rest) in
+      let clip = zero-place-ok _ (first-ok _ _ rest) in
+      let bases = zero-place-ok _ (second-ok _ _ rest) in
       record {
         name-good = none-fails isNameByte (r .name) (when-ok _ _ _ (first-ok _ _ (second-ok _ _ (second-ok _ _ e))));
         name-fits = name-small (length (r .name)) (under-ok _ _ _ _ (first-ok _ _ (second-ok _ _ e)));
@@ -79,7 +79,7 @@ module _ (characters : List ℕ) (r : Read) where
       both-ok _ _ (ok-when _ _ _ (every-passes isNameByte (r .name) (v .name-good)))
       (
       both-ok _ _
-      (ok-own _
+      (ok-zero-place _
       (
       both-ok _ _ (ok-under _ _ _ _ (v .quality-left-good))
       (
@@ -88,7 +88,7 @@ module _ (characters : List ℕ) (r : Read) where
       )
       )
       )
-      (ok-own _ (ok-bases characters (r .increments) (r .bases) (v .walk-good) (v .bases-good)))
+      (ok-zero-place _ (ok-bases characters (r .increments) (r .bases) (v .walk-good) (v .bases-good)))
       )
       )
       )

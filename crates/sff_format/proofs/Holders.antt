@@ -16,7 +16,7 @@ use Rattle.sff_format.specs.HeaderTest.{indexOffset, indexLength, readCo
 use Rattle.sff_format.specs.FileTest.{fileTest}
 use Rattle.sff_format.specs.Parse.{parse}
 use Rattle.sff_format.specs.Places.{readAt}
-use Rattle.sff_format.specs.Writing.{givenTest, appendTest, Holder, Lent}
+use Rattle.sff_format.specs.Writing.{givenTest, appendTest, Holder, FitsSlices}
 use Rattle.sff_format.proofs.HeaderLaws.{count-is, characters-are}
 use Rattle.sff_format.proofs.FileLaid.{reads-counted, file-valid}
 use Rattle.sff_format.proofs.FileTaken.{header-first, file-taken, file-back}
@@ -64,7 +64,7 @@ module _ (b : List ℕ) (y : Bytes b) (e : fileTest b ≡ Accepted) (r : Read) (
 
 -- A read's own reasons to be refused (30, 5, 6, 9, 10, 11) hold exactly if no accepted file with these flow characters
 -- could hold it.
-pub given-exactly : (file : List ℕ) (read : Read) → Bytes file → fileTest file ≡ Accepted → Lent read
+pub given-exactly : (file : List ℕ) (read : Read) → Bytes file → fileTest file ≡ Accepted → FitsSlices read
     → (givenTest (flowCharacters file) read ≡ Accepted) ↔ Holder (flowCharacters file) read
 given-exactly file read y e t = (
   (λ g. valid-holder file y e read (given-valid (flowCharacters file) read t g)),
@@ -73,7 +73,7 @@ given-exactly file read y e t = (
 
 -- In a buffer with room, after a file with no index and fewer reads than the count can say, an append is carried out
 -- exactly if some such file could hold the read.
-module _ (buffer : List ℕ) (len : ℕ) (read : Read) (y : Bytes buffer) (t : Lent read) (h : len ≤ length buffer) (e : fileTest (take len buffer) ≡ Accepted)
+module _ (buffer : List ℕ) (len : ℕ) (read : Read) (y : Bytes buffer) (t : FitsSlices read) (h : len ≤ length buffer) (e : fileTest (take len buffer) ≡ Accepted)
     (i : declared (indexOffset (take len buffer)) (indexLength (take len buffer)) ≡ false) (n : readCount (take len buffer) < 4294967295)
     (m : len + length (layoutRead read) ≤ length buffer) where
   pub append-exactly : (appendTest buffer len read ≡ Accepted) ↔ Holder (flowCharacters (take len buffer)) read

@@ -19,7 +19,7 @@ use Rattle.answers.specs.declared.Answer.the-variants.{Accepted, Refused}
 use Rattle.answers.specs.Answer.{when, Refusing}
 use Rattle.answers.proofs.Answers.{or-left, or-right, or-either, and-both}
 use Rattle.answers.proofs.Numbered.{then-refusing, when-refusing, held-refusing}
-use Rattle.sff_format.specs.Rules.{declared, badIndexLength, badIndex, isFlow, walkRun, isCall, callRun}
+use Rattle.sff_format.specs.Rules.{declared, badIndexLength, badIndex, isFlow, walkedCount, baseMatches, matchedCount}
 use Rattle.sff_format.specs.Model.{Read}
 use Rattle.sff_format.specs.Valid.{ValidRead, ValidReads}
 use Rattle.sff_format.specs.HeaderTest.{indexOffset, indexLength, readCount, headerLength, keyLength, flows, flowCharacters, fixedTest, charactersTest, headerTest}
@@ -67,16 +67,16 @@ unfolding isFlow
 in-flow F x h = rw (le-leb 1 x (h .0), le-leb x F (h .1))
 
 -- "every flow position lies in 1 to F", after flow position f
-walk-at : (F f : ℕ) (xs : List ℕ) → walkRun F f xs ≡ length xs → (j : ℕ) → j < length xs → In F (f + flowPosition xs j)
-unfolding walkRun sum
+walk-at : (F f : ℕ) (xs : List ℕ) → walkedCount F f xs ≡ length xs → (j : ℕ) → j < length xs → In F (f + flowPosition xs j)
+unfolding walkedCount sum
 walk-at F f [] e j h = absurd (let a : ⊥ = omega arith in a)
 walk-at F f (x ∷ xs) e zero h = let k = flow-in F (f + x) (first-passes (isFlow F (f + x)) _ _ e .0) in (omega arith, omega arith)
 walk-at F f (x ∷ xs) e (suc j) h =
     let k = walk-at F (f + x) xs (first-passes (isFlow F (f + x)) _ _ e .1) j (omega arith) in
     (omega arith, omega arith)
 
-at-walk : (F f : ℕ) (xs : List ℕ) → ((j : ℕ) → j < length xs → In F (f + flowPosition xs j)) → walkRun F f xs ≡ length xs
-unfolding walkRun sum
+at-walk : (F f : ℕ) (xs : List ℕ) → ((j : ℕ) → j < length xs → In F (f + flowPosition xs j)) → walkedCount F f xs ≡ length xs
+unfolding walkedCount sum
 at-walk F f [] h = refl
 at-walk F f (x ∷ xs) h =
     let k = h 0 (omega arith) in
@@ -84,7 +84,7 @@ at-walk F f (x ∷ xs) h =
     rw t (ap suc (at-walk F (f + x) xs (λ j l. let m = h (suc j) (omega arith) in (omega arith, omega arith))))
 
 pub walk-exactly : (F : ℕ) (xs : List ℕ)
-    → (walkRun F 0 xs ≡ length xs) ↔ ((j : ℕ) → j < length xs → (1 ≤ flowPosition xs j) × (flowPosition xs j ≤ F))
+    → (walkedCount F 0 xs ≡ length xs) ↔ ((j : ℕ) → j < length xs → (1 ≤ flowPosition xs j) × (flowPosition xs j ≤ F))
 walk-exactly F xs = (
   λ e j h. let k = walk-at F 0 xs e j h in (omega arith, omega arith),
   λ h. at-walk F 0 xs (λ j l. let k = h j l in (omega arith, omega arith)),
@@ -94,54 +94,54 @@ walk-exactly F xs = (
 abbrev pub Called : List ℕ → ℕ → ℕ → Type 0
 Called characters f y = (y ≡ getD characters (f - 1) 0) ⊎ (y ≡ 78)
 
-call-is : (characters : List ℕ) (f y : ℕ) → isCall characters f y ≡ true → Called characters f y
-unfolding isCall
+call-is : (characters : List ℕ) (f y : ℕ) → baseMatches characters f y ≡ true → Called characters f y
+unfolding baseMatches
 call-is characters f y e =
     ⊎-elim (λ k. inl (eqb-true y _ k)) (λ k. inr (eqb-true y 78 k)) (or-either (eqb y (getD characters (f - 1) 0)) (eqb y 78) e)
 
-is-call : (characters : List ℕ) (f y : ℕ) → Called characters f y → isCall characters f y ≡ true
-unfolding isCall
-is-call characters f y (inl e) = rw (eq-eqb y (getD characters (f - 1) 0) e)
-is-call characters f y (inr e) = or-right-true (eqb y (getD characters (f - 1) 0)) (eqb y 78) (eq-eqb y 78 e)
+base-matches : (characters : List ℕ) (f y : ℕ) → Called characters f y → baseMatches characters f y ≡ true
+unfolding baseMatches
+base-matches characters f y (inl e) = rw (eq-eqb y (getD characters (f - 1) 0) e)
+base-matches characters f y (inr e) = or-right-true (eqb y (getD characters (f - 1) 0)) (eqb y 78) (eq-eqb y 78 e)
   where
     or-right-true : (s t : Bool) → t ≡ true → (s || t) ≡ true
     or-right-true true t k = refl
     or-right-true false t k = k
 
-call-at : (characters : List ℕ) (f : ℕ) (xs ys : List ℕ) → callRun characters f xs ys ≡ length ys → (j : ℕ) → j < length ys
+call-at : (characters : List ℕ) (f : ℕ) (xs ys : List ℕ) → matchedCount characters f xs ys ≡ length ys → (j : ℕ) → j < length ys
     → Called characters (f + flowPosition xs j) (getD ys j 0)
-unfolding callRun sum
+unfolding matchedCount sum
 call-at characters f xs [] e j h = absurd (let a : ⊥ = omega arith in a)
 call-at characters f [] (y ∷ ys) e j h = absurd (let a : ⊥ = omega (arith, e) in a)
 call-at characters f (x ∷ xs) (y ∷ ys) e zero h =
     let t = isFlow (length characters) (f + x) in
-    let k = and-both t (isCall characters (f + x) y) (first-passes (t && isCall characters (f + x) y) _ _ e .0) in
+    let k = and-both t (baseMatches characters (f + x) y) (first-passes (t && baseMatches characters (f + x) y) _ _ e .0) in
     rw add-zero (call-is characters (f + x) y (k .1))
 call-at characters f (x ∷ xs) (y ∷ ys) e (suc j) h =
-    let t = isFlow (length characters) (f + x) && isCall characters (f + x) y in
+    let t = isFlow (length characters) (f + x) && baseMatches characters (f + x) y in
     let k = call-at characters (f + x) xs ys (first-passes t _ _ e .1) j (omega arith) in
     let m : f + x + flowPosition xs j ≡ f + (x + flowPosition xs j) = omega arith in
     rw m at k
 
 at-call : (characters : List ℕ) (f : ℕ) (xs ys : List ℕ) → length xs ≡ length ys
     → ((j : ℕ) → j < length xs → In (length characters) (f + flowPosition xs j))
-    → ((j : ℕ) → j < length ys → Called characters (f + flowPosition xs j) (getD ys j 0)) → callRun characters f xs ys ≡ length ys
-unfolding callRun sum
+    → ((j : ℕ) → j < length ys → Called characters (f + flowPosition xs j) (getD ys j 0)) → matchedCount characters f xs ys ≡ length ys
+unfolding matchedCount sum
 at-call characters f [] [] l h k = refl
 at-call characters f [] (y ∷ ys) l h k = l
 at-call characters f (x ∷ xs) [] l h k = refl
 at-call characters f (x ∷ xs) (y ∷ ys) l h k =
     let i = h 0 (omega arith) in
     let t = in-flow (length characters) (f + x) (omega arith, omega arith) in
-    let c = is-call characters (f + x) y (rw add-zero at (k 0 (omega arith))) in
-    let more : callRun characters (f + x) xs ys ≡ length ys =
+    let c = base-matches characters (f + x) y (rw add-zero at (k 0 (omega arith))) in
+    let more : matchedCount characters (f + x) xs ys ≡ length ys =
     at-call characters (f + x) xs ys (omega arith)
     (λ j m. let n = h (suc j) (omega arith) in (omega arith, omega arith))
     (λ j m. let e : f + (x + flowPosition xs j) ≡ f + x + flowPosition xs j = omega arith in rw e at (k (suc j) (omega arith))) in
     rw (t, c, more)
 
-pub calls-exactly : (characters xs ys : List ℕ) → walkRun (length characters) 0 xs ≡ length xs → length xs ≡ length ys
-    → (callRun characters 0 xs ys ≡ length ys) ↔ ((j : ℕ) → j < length ys → Called characters (flowPosition xs j) (getD ys j 0))
+pub calls-exactly : (characters xs ys : List ℕ) → walkedCount (length characters) 0 xs ≡ length xs → length xs ≡ length ys
+    → (matchedCount characters 0 xs ys ≡ length ys) ↔ ((j : ℕ) → j < length ys → Called characters (flowPosition xs j) (getD ys j 0))
 calls-exactly characters xs ys w l = (
   λ e j h. rw (zero-add) at (call-at characters 0 xs ys e j h),
   λ h. at-call characters 0 xs ys l (walk-at (length characters) 0 xs w) (λ j m. rw zero-add (h j m)),

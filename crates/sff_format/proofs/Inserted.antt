@@ -11,15 +11,15 @@ use Rattle.octets.specs.Parts.{part}
 use Rattle.octets.specs.Numbers.{Bytes}
 use Rattle.octets.proofs.Lists.{length-part, part-in, whole-in}
 use Rattle.answers.specs.declared.Answer.the-variants.{Accepted}
-use Rattle.sff_format.specs.declared.Stretch.{Stretch}
+use Rattle.sff_format.specs.declared.Span.{Span}
 use Rattle.sff_format.specs.declared.ReadView.{ReadView}
 use Rattle.sff_format.specs.Model.{Read}
 use Rattle.sff_format.specs.Rules.{leftLimit, rightLimit}
 use Rattle.sff_format.specs.Valid.{ValidRead}
 use Rattle.sff_format.specs.ReadTest.{qualityRight, adapterRight, readTest}
 use Rattle.sff_format.specs.Parse.{parseRead}
-use Rattle.sff_format.specs.Insert.{firstBase, rightEnd, lastBase, insertFirst, insertLast, insertStretch, insertOf}
-use Rattle.sff_format.specs.View.{viewAt, viewFirst, viewLast, bytesIn, viewStretch, insertIn}
+use Rattle.sff_format.specs.Insert.{firstBase, rightEnd, lastBase, insertFirst, insertLast, insertSpan, insertOf}
+use Rattle.sff_format.specs.View.{viewAt, viewFirst, viewLast, bytesIn, viewSpan, insertIn}
 use Rattle.sff_format.proofs.ReadLaid.{read-valid}
 use Rattle.sff_format.proofs.Views.{data-inside, bases-viewed, qualities-viewed}
 
@@ -62,15 +62,15 @@ module _ {characters : List ℕ} {read : Read} (v : ValidRead characters read) w
   insert-within h = (first-least (read .quality-left) (read .adapter-left), last-in)
 
   -- so its stretch lies in any list with an entry for each base, and is as long there as the stretch says
-  pub stretch-in : insertStretch read .at + insertStretch read .size ≤ length (read .bases)
-  stretch-in = let f = first-in in let l = last-in in let o = first-least (read .quality-left) (read .adapter-left) in omega arith
+  pub span-in : insertSpan read .at + insertSpan read .size ≤ length (read .bases)
+  span-in = let f = first-in in let l = last-in in let o = first-least (read .quality-left) (read .adapter-left) in omega arith
 
   pub length-insert : (xs : List ℕ) → length xs ≡ length (read .bases)
-      → length (insertOf read xs) ≡ insertStretch read .size
+      → length (insertOf read xs) ≡ insertSpan read .size
   unfolding insertOf
   length-insert xs n =
-      let s = stretch-in in
-      length-part (insertStretch read .at) (insertStretch read .size) xs (omega arith)
+      let s = span-in in
+      length-part (insertSpan read .at) (insertSpan read .size) xs (omega arith)
 
 module _ (characters b : List ℕ) (p : ℕ) (y : Bytes b) (e : readTest characters b p ≡ Accepted) where
   abbrev view : ReadView
@@ -94,13 +94,13 @@ module _ (characters b : List ℕ) (p : ℕ) (y : Bytes b) (e : readTest charact
   unfolding viewAt parseRead
   last-viewed = ap (λ (n : ℕ). lastBase n (qualityRight b p) (adapterRight b p)) size-viewed
 
-  pub stretch-viewed : (viewStretch view ≡ insertStretch read) × (viewStretch view .at + viewStretch view .size ≤ view .bases .size)
-  stretch-viewed = (rw (first-viewed, last-viewed), rw (first-viewed, last-viewed, size-viewed) (stretch-in valid))
+  pub span-viewed : (viewSpan view ≡ insertSpan read) × (viewSpan view .at + viewSpan view .size ≤ view .bases .size)
+  span-viewed = (rw (first-viewed, last-viewed), rw (first-viewed, last-viewed, size-viewed) (span-in valid))
 
   -- the insert of a list with an entry for each base, by the view and by the read
   list-viewed : (xs : List ℕ) → length xs ≡ length (read .bases) → insertIn view xs ≡ insertOf read xs
   unfolding insertIn insertOf
-  list-viewed xs n = rw (first-viewed, last-viewed) (whole-in _ _ xs (rw n (stretch-in valid)))
+  list-viewed xs n = rw (first-viewed, last-viewed) (whole-in _ _ xs (rw n (span-in valid)))
 
   pub insert-viewed : insertIn view (bytesIn b (view .bases)) ≡ insertOf read (read .bases)
   insert-viewed = rw (bases-viewed characters b p e) (list-viewed (read .bases) refl)
@@ -109,11 +109,11 @@ module _ (characters b : List ℕ) (p : ℕ) (y : Bytes b) (e : readTest charact
   qualities-inserted = rw (qualities-viewed characters b p e) (list-viewed (read .qualities) (valid .qualities-count))
 
   -- of a stretch of the file with an entry for each base it is a part of the file
-  pub insert-part : (x : Stretch) → x .size ≡ view .bases .size → x .at + x .size ≤ length b
-      → insertIn view (bytesIn b x) ≡ part (x .at + viewStretch view .at) (viewStretch view .size) b
+  pub insert-part : (x : Span) → x .size ≡ view .bases .size → x .at + x .size ≤ length b
+      → insertIn view (bytesIn b x) ≡ part (x .at + viewSpan view .at) (viewSpan view .size) b
   unfolding insertIn
   insert-part x n h =
-      let s : viewStretch view .at + viewStretch view .size ≤ x .size = rw n (stretch-viewed .1) in
+      let s : viewSpan view .at + viewSpan view .size ≤ x .size = rw n (span-viewed .1) in
       let l : length (part (x .at) (x .size) b) ≡ x .size = length-part (x .at) (x .size) b h in
       rw (whole-in (x .at) (x .size) b h) (whole-in _ _ (part (x .at) (x .size) b) (rw l s) ∙ part-in _ _ (x .at) (x .size) b s h)
 

@@ -11,7 +11,7 @@ use Rattle.octets.specs.Parts.{up8}
 use Rattle.octets.specs.Scans.{Every, isFlowCharacter}
 use Rattle.sff_format.specs.Model.{Read, Index, File, noIndex, layoutRead, layoutReads, withReads}
 use Rattle.sff_format.specs.Rules.{declared, badIndex}
-use Rattle.sff_format.specs.Valid.{ValidRead, ValidReads, Boundary, Valid}
+use Rattle.sff_format.specs.Valid.{ValidRead, ValidReads, IsBoundary, Valid}
 use Rattle.sff_format.specs.Places.{noRead, readAt, replaced}
 use Rattle.sff_format.specs.Writing.{newFile}
 use Rattle.sff_format.proofs.Boundaries.{undeclared}
@@ -120,7 +120,7 @@ module _ (f : File) (i : ℕ) (h : i < length (f .reads)) (v : Valid f) where
     as-many = simp (length-append, length-take, length-drop) (omega arith)
 
     met : (length (layoutRead r) ≡ length (layoutRead (readAt f i))) ⊎ (f .index ≡ noIndex)
-        → declared (f .index .offset) (length (f .index .bytes)) ≡ true → Boundary (withReads rs f) (f .index .offset)
+        → declared (f .index .offset) (length (f .index .bytes)) ≡ true → IsBoundary (withReads rs f) (f .index .offset)
     met (inl e) d = (v .index-met d .0, rw (header-same f rs as-many, front-replaced (v .index-met d .0) i (f .reads) r h e) (v .index-met d .1))
     met (inr e) d = absurd (false≢true (sym (none-declared f e) ∙ d))
 

@@ -28,7 +28,7 @@ use Rattle.sff_format.proofs.Boundaries.{accepted-read}
 use Rattle.sff_format.proofs.FileLaid.{head-ok, sections-ok}
 use Rattle.sff_format.proofs.Places.{read-found}
 use Rattle.sff_format.proofs.Views.{data-inside}
-use Rattle.sff_format.proofs.Inserted.{first-viewed, last-viewed, insert-viewed, stretch-viewed, insert-part}
+use Rattle.sff_format.proofs.Inserted.{first-viewed, last-viewed, insert-viewed, span-viewed, insert-part}
 use Rattle.sff_format.proofs.ViewTests.{insert-whole, read-view-accepted}
 
 -- the read that a walk from an accepted boundary finds is accepted
@@ -143,7 +143,7 @@ module _ (file : List ℕ) (position : ℕ) (e : positionTest file position ≡ 
         × (fileFirst file position - 1 + (suc (fileLast file position) - fileFirst file position) ≤ viewOf file position .bases .size)
     insert-inside =
         let d = rw count at (data-inside (flowCharacters file) file (readPlace file position) there) in
-        let s = rw count at (stretch-viewed (flowCharacters file) file (readPlace file position) y there .1) in
+        let s = rw count at (span-viewed (flowCharacters file) file (readPlace file position) y there .1) in
         let t = (rw count at (insert-part (flowCharacters file) file (readPlace file position) y there)) (viewOf file position .bases) refl (d .2) in
         rw (← first-view, ← last-view) (sym insert-view ∙ t, s)
 

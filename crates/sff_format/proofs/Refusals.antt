@@ -10,13 +10,13 @@ use Rattle.answers.specs.declared.Answer.{Answer}
 use Rattle.answers.specs.declared.Answer.the-variants.{Accepted, Refused}
 use Rattle.answers.specs.Answer.{numberOf, _then_, among, Among}
 use Rattle.answers.proofs.Answers.{cond-keeps, either-keeps}
-use Rattle.answers.proofs.Numbered.{zero-accepted, then-refusing, when-refusing, shifted-refusing, own-refusing, more-numbers}
+use Rattle.answers.proofs.Numbered.{zero-accepted, then-refusing, when-refusing, shifted-refusing, zero-place-refusing, more-numbers}
 use Rattle.sff_format.specs.HeaderTest.{fixedTest, charactersTest, headerTest, readCount, headerLength, flows, flowCharacters}
 use Rattle.sff_format.specs.ReadTest.{nameTest, clipTest, basesTest, dataTest, readTest}
 use Rattle.sff_format.specs.FileTest.{indexHere, passTest, indexTest, endTest, boundaryTest, fileTest}
 use Rattle.sff_format.specs.Model.{Read, File}
 use Rattle.sff_format.specs.Position.{positionTest, signalTest}
-use Rattle.sff_format.specs.Writing.{newTest, newOutcome, givenTest, openTest, appendTest, appendOutcome, Left, newIn, appendTo, appendEach, writeEach}
+use Rattle.sff_format.specs.Writing.{newTest, newOutcome, givenTest, openTest, appendTest, appendOutcome, WriteResult, newIn, appendTo, appendEach, writeEach}
 use Rattle.sff_format.specs.declared.ReadView.{ReadView}
 use Rattle.sff_format.specs.View.{viewAt, viewTest}
 use Rattle.sff_format.specs.Numbers.{headerNumbers, fileNumbers, stepNumbers, viewNumbers, positionNumbers, signalNumbers, newNumbers, appendNumbers}
@@ -182,8 +182,8 @@ given-numbers characters r =
     (
     then-refusing _ _ _ (when-refusing _ _ 6 _ refl)
     (
-    then-refusing _ _ _ (own-refusing _ _ (more-numbers fileNumbers appendNumbers refl (clipTest 0 n ql qr al ar) (clip-numbers 0 n ql qr al ar)))
-    (own-refusing _ _ (more-numbers fileNumbers appendNumbers refl (basesTest characters (r .increments) (r .bases)) (bases-numbers characters (r .increments) (r .bases))))
+    then-refusing _ _ _ (zero-place-refusing _ _ (more-numbers fileNumbers appendNumbers refl (clipTest 0 n ql qr al ar) (clip-numbers 0 n ql qr al ar)))
+    (zero-place-refusing _ _ (more-numbers fileNumbers appendNumbers refl (basesTest characters (r .increments) (r .bases)) (bases-numbers characters (r .increments) (r .bases))))
     )
     )
     )
@@ -210,11 +210,11 @@ append-zero buffer len read e =
     zero-accepted appendNumbers refl (appendTest buffer len read) (append-numbers buffer len read) e
 
 -- nor is it a refusal's of a file that is written
-each-numbers : (w : Left) (rs : List Read) → Among appendNumbers (w .outcome .answer) → Among appendNumbers (appendEach w rs .outcome .answer)
+each-numbers : (w : WriteResult) (rs : List Read) → Among appendNumbers (w .outcome .answer) → Among appendNumbers (appendEach w rs .outcome .answer)
 unfolding appendEach appendOutcome
 each-numbers w [] h = h
 each-numbers w (r ∷ rs) h =
-    either-keeps (λ (v : Left). Among appendNumbers (v .outcome .answer)) (w .outcome .answer) (appendEach (appendTo w r) rs) w
+    either-keeps (λ (v : WriteResult). Among appendNumbers (v .outcome .answer)) (w .outcome .answer) (appendEach (appendTo w r) rs) w
     (each-numbers (appendTo w r) rs (append-numbers (w .buffer) (w .outcome .length) r)) h
 
 pub written-zero : (buffer : List ℕ) (content : File) → numberOf (writeEach buffer content .outcome .answer) ≡ 0

@@ -14,23 +14,23 @@ use Rattle.octets.proofs.Lists.{length-part, whole-in, whole-none}
 use Rattle.answers.specs.declared.Answer.{Answer}
 use Rattle.answers.specs.declared.Answer.the-variants.{Accepted, Refused}
 use Rattle.answers.proofs.Answers.{first-ok, second-ok, both-ok, when-ok, ok-when, under-ok, ok-under}
-use Rattle.sff_format.specs.declared.Stretch.{Stretch}
+use Rattle.sff_format.specs.declared.Span.{Span}
 use Rattle.sff_format.specs.declared.ReadView.{ReadView}
 use Rattle.sff_format.specs.HeaderTest.{flows, flowCharacters}
 use Rattle.sff_format.specs.ReadTest.{readTest}
 use Rattle.sff_format.specs.Insert.{between}
-use Rattle.sff_format.specs.View.{viewAt, bytesIn, viewFirst, viewLast, viewStretch, insertIn, insertOutside, viewTest}
+use Rattle.sff_format.specs.View.{viewAt, bytesIn, viewFirst, viewLast, viewSpan, insertIn, insertOutside, viewTest}
 use Rattle.sff_format.specs.Step.{State, Step, found, stop, boundary, stepTest, step}
 use Rattle.sff_format.proofs.HeaderLaws.{characters-length}
 use Rattle.sff_format.proofs.Views.{name-inside, data-inside}
-use Rattle.sff_format.proofs.Inserted.{first-least, stretch-viewed}
+use Rattle.sff_format.proofs.Inserted.{first-least, span-viewed}
 use Rattle.sff_format.proofs.Steps.{step-found, step-stop, header-accepted, read-accepted}
 
 -- a stretch is handed out whole: the file's bytes from its place on, as many as it says
-abbrev pub Whole : List ℕ → Stretch → Type 0
+abbrev pub Whole : List ℕ → Span → Type 0
 Whole b x = (bytesIn b x ≡ part (x .at) (x .size) b) × (length (bytesIn b x) ≡ x .size)
 
-whole : (b : List ℕ) (x : Stretch) → x .at + x .size ≤ length b → Whole b x
+whole : (b : List ℕ) (x : Span) → x .at + x .size ≤ length b → Whole b x
 whole b x h = let w = whole-in (x .at) (x .size) b h in (w, rw w (length-part (x .at) (x .size) b h))
 
 -- an insert that its test takes is empty, or lies within the bases l
@@ -66,7 +66,7 @@ module _ (file : List ℕ) (view : ReadView) (e : viewTest file view ≡ Accepte
       (under-ok _ _ _ _ (first-ok _ _ (second-ok _ _ (second-ok _ _ (second-ok _ _ (second-ok _ _ e))))))
 
   -- all bases from the first to the last of the insert, none where the last comes before the first
-  pub insert-whole : length (insertIn view (bytesIn file (view .bases))) ≡ viewStretch view .size
+  pub insert-whole : length (insertIn view (bytesIn file (view .bases))) ≡ viewSpan view .size
   unfolding viewTest insertIn
   insert-whole =
       let t : insertOutside view ≡ false = when-ok _ _ _ (second-ok _ _ (second-ok _ _ (second-ok _ _ (second-ok _ _ (second-ok _ _ e))))) in
@@ -78,7 +78,7 @@ module _ (characters b : List ℕ) (p : ℕ) (y : Bytes b) (e : readTest charact
   insert-inside : insertOutside (viewAt (length characters) b p) ≡ false
   insert-inside =
       let v = viewAt (length characters) b p in
-      let s = stretch-viewed characters b p y e .1 in
+      let s = span-viewed characters b p y e .1 in
       let o = first-least (v .«quality_left») (v .«adapter_left») in
       rw (le-ltb (v .bases .size) (viewLast v) (omega arith)) (and-false (leb (viewFirst v) (viewLast v)))
 

@@ -19,7 +19,7 @@ use Rattle.sff_format.specs.Model.{Read, File, noIndex, layoutRead, layo
 use Rattle.sff_format.specs.Valid.{Valid}
 use Rattle.sff_format.specs.HeaderTest.{indexOffset, indexLength, readCount, flowCharacters}
 use Rattle.sff_format.specs.FileTest.{fileTest}
-use Rattle.sff_format.specs.Writing.{newFile, newTest, newOutcome, newBuffer, givenTest, appendTest, appendOutcome, appendBuffer, Left, appendEach, writeEach, Lent, AllLent}
+use Rattle.sff_format.specs.Writing.{newFile, newTest, newOutcome, newBuffer, givenTest, appendTest, appendOutcome, appendBuffer, WriteResult, appendEach, writeEach, FitsSlices, AllFitSlices}
 use Rattle.answers.proofs.Answers.{first-ok, second-ok, both-ok, when-ok, ok-when, under-ok, ok-under, not-accepted, or-left, or-right}
 use Rattle.sff_format.proofs.Sizes.{length-header}
 use Rattle.sff_format.proofs.HeaderLaws.{offset-is, index-length-is, count-is, characters-are}
@@ -31,7 +31,7 @@ use Rattle.sff_format.proofs.Appends.{length-more, appended-in, carried
 use Rattle.sff_format.proofs.Given.{valid-given}
 
 -- what is left where a file has been written at the front of a buffer
-abbrev written : List ℕ → File → Left
+abbrev written : List ℕ → File → WriteResult
 written buffer f = record { outcome = record { answer = Accepted; length = length (layout f) }; buffer = putAt 0 (layout f) buffer }
 
 valid-front : (characters key : List ℕ) (us ws : List Read) → Valid (plain characters key (us ++ ws)) → Valid (plain characters key us)
@@ -155,7 +155,7 @@ module _ (content : File) (e : content .index ≡ noIndex) where
       (each-written c k buffer [] (content .reads) w l ∙ ap (written buffer) (is-plain content e))
 
 -- a writer that was refused stays so
-stays : (w : Left) (rs : List Read) (n p : ℕ) → w .outcome .answer ≡ Refused n p → appendEach w rs .outcome .answer ≡ Refused n p
+stays : (w : WriteResult) (rs : List Read) (n p : ℕ) → w .outcome .answer ≡ Refused n p → appendEach w rs .outcome .answer ≡ Refused n p
 unfolding appendEach acceptedOr
 stays w [] n p e = e
 stays w (r ∷ rs) n p e = rw e
@@ -169,7 +169,7 @@ unfolding newOutcome
 new-refused buffer characters key n p e = e
 
 -- what an append that was carried out shows
-module _ (characters key buffer : List ℕ) (us : List Read) (r : Read) (v : Valid (plain characters key us)) (t : Lent r)
+module _ (characters key buffer : List ℕ) (us : List Read) (r : Read) (v : Valid (plain characters key us)) (t : FitsSlices r)
     (fits : length (layout (plain characters key us)) ≤ length buffer) where
   abbrev file : File
   file = plain characters key us
@@ -191,7 +191,7 @@ module _ (characters key buffer : List ℕ) (us : List Read) (r : Read) (v : Val
 abbrev Fits : List ℕ → File → Type 0
 Fits buffer f = Valid f × (length (layout f) ≤ length buffer)
 
-each-exactly : (characters key buffer : List ℕ) (us ws : List Read) → Valid (plain characters key us) → length (layout (plain characters key us)) ≤ length buffer → AllLent ws
+each-exactly : (characters key buffer : List ℕ) (us ws : List Read) → Valid (plain characters key us) → length (layout (plain characters key us)) ≤ length buffer → AllFitSlices ws
     → appendEach (written buffer (plain characters key us)) ws .outcome .answer ≡ Accepted
     → Fits buffer (plain characters key (us ++ ws))
 unfolding appendEach acceptedOr
@@ -222,11 +222,11 @@ new-valid buffer characters key e =
     )
 
 -- The writers carry all of it out exactly if the file keeps the rules and the buffer holds it.
-module _ (content : File) (e : content .index ≡ noIndex) (buffer : List ℕ) (t : AllLent (content .reads)) where
+module _ (content : File) (e : content .index ≡ noIndex) (buffer : List ℕ) (t : AllFitSlices (content .reads)) where
   pub write-exactly : (writeEach buffer content .outcome .answer ≡ Accepted)
       ↔ (Valid content × (length (layout content) ≤ length buffer))
   unfolding writeEach
-  write-exactly = ((λ a. go a (newTest (length buffer) (content .flow-characters) (content .key)) refl), (λ k. ap (λ (w : Left). w .outcome .answer) (write-each content e (k .0) buffer (k .1))))
+  write-exactly = ((λ a. go a (newTest (length buffer) (content .flow-characters) (content .key)) refl), (λ k. ap (λ (w : WriteResult). w .outcome .answer) (write-each content e (k .0) buffer (k .1))))
     where
       go : writeEach buffer content .outcome .answer ≡ Accepted → (a : Answer)
           → newTest (length buffer) (content .flow-characters) (content .key) ≡ a → Fits buffer content

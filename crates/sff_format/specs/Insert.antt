@@ -6,7 +6,7 @@ use mathlib.Core.List.{List}
 use lib.ListN.{length}
 use lib.Dec.{eqb}
 use Rattle.octets.specs.Parts.{part}
-use Rattle.sff_format.specs.declared.Stretch.{Stretch}
+use Rattle.sff_format.specs.declared.Span.{Span}
 use Rattle.sff_format.specs.Model.{Read}
 
 -- "First = max(1, both lefts)"
@@ -28,12 +28,12 @@ abbrev pub insertLast : Read → ℕ
 insertLast read = lastBase (length (read .bases)) (read .quality-right) (read .adapter-right)
 
 -- from first to last, both from 1, of whatever a read has one of for each base: none "If first > last"
-abbrev pub between : ℕ → ℕ → Stretch
+abbrev pub between : ℕ → ℕ → Span
 between first last = record { at = first - 1; size = suc last - first }
 
-abbrev pub insertStretch : Read → Stretch
-insertStretch read = between (insertFirst read) (insertLast read)
+abbrev pub insertSpan : Read → Span
+insertSpan read = between (insertFirst read) (insertLast read)
 
 -- the insert of such a list: of the bases, or of the qualities
 unfoldable pub insertOf : Read → List ℕ → List ℕ
-insertOf read xs = part (insertStretch read .at) (insertStretch read .size) xs
+insertOf read xs = part (insertSpan read .at) (insertSpan read .size) xs

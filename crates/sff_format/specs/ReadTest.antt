@@ -9,7 +9,7 @@ use Rattle.octets.specs.Numbers.{number}
 use Rattle.octets.specs.Scans.{firstNot, isNameByte, isZero}
 use Rattle.answers.specs.declared.Answer.{Answer}
 use Rattle.answers.specs.Answer.{when, stopped, shifted, _then_}
-use Rattle.sff_format.specs.Rules.{leftLimit, rightLimit, walkRun, callRun}
+use Rattle.sff_format.specs.Rules.{leftLimit, rightLimit, walkedCount, matchedCount}
 
 -- "its length (2), name length L (2), bases N (4), quality left, quality right, adapter left, adapter right (2 each, in
 -- that order)"
@@ -55,8 +55,8 @@ clipTest place n quality-left quality-right adapter-left adapter-right =
 -- "The walk stops at the first base that breaks this"
 unfoldable pub basesTest : List ℕ → List ℕ → List ℕ → Answer
 basesTest characters increments bases =
-    stopped 10 (walkRun (length characters) 0 increments) (length increments)
-    then stopped 11 (length increments + callRun characters 0 increments bases) (length increments + length bases)
+    stopped 10 (walkedCount (length characters) 0 increments) (length increments)
+    then stopped 11 (length increments + matchedCount characters 0 increments bases) (length increments + length bases)
 
 -- a data section at a place, of n bases: cut short (1), the walk (10), a base (11), padding (7)
 unfoldable pub dataTest : List ℕ → List ℕ → ℕ → ℕ → Answer

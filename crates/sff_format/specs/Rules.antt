@@ -36,19 +36,19 @@ isFlow F flow = leb 1 flow && leb flow F
 
 -- "Index bytes are increments. The running sum after each base is its flow position": after a flow position, how many
 -- of them keep the rule
-unfoldable pub walkRun : ℕ → ℕ → List ℕ → ℕ
-walkRun F flow [] = 0
-walkRun F flow (increment ∷ increments) =
-    oneMore (isFlow F (flow + increment)) (walkRun F (flow + increment) increments)
+unfoldable pub walkedCount : ℕ → ℕ → List ℕ → ℕ
+walkedCount F flow [] = 0
+walkedCount F flow (increment ∷ increments) =
+    oneMore (isFlow F (flow + increment)) (walkedCount F (flow + increment) increments)
 
 -- "Base i is the flow character at its flow, or the letter N"
-unfoldable pub isCall : List ℕ → ℕ → ℕ → Bool
-isCall characters flow base = eqb base (getD characters (flow - 1) 0) || eqb base 78
+unfoldable pub baseMatches : List ℕ → ℕ → ℕ → Bool
+baseMatches characters flow base = eqb base (getD characters (flow - 1) 0) || eqb base 78
 
 -- after a flow position, how many of the bases, with their increments, keep the rule
-unfoldable pub callRun : List ℕ → ℕ → List ℕ → List ℕ → ℕ
-callRun characters flow [] bases = 0
-callRun characters flow (increment ∷ increments) [] = 0
-callRun characters flow (increment ∷ increments) (base ∷ bases) =
-    oneMore (isFlow (length characters) (flow + increment) && isCall characters (flow + increment) base)
-    (callRun characters (flow + increment) increments bases)
+unfoldable pub matchedCount : List ℕ → ℕ → List ℕ → List ℕ → ℕ
+matchedCount characters flow [] bases = 0
+matchedCount characters flow (increment ∷ increments) [] = 0
+matchedCount characters flow (increment ∷ increments) (base ∷ bases) =
+    oneMore (isFlow (length characters) (flow + increment) && baseMatches characters (flow + increment) base)
+    (matchedCount characters (flow + increment) increments bases)

@@ -9,7 +9,7 @@ use Rattle.octets.specs.Parts.{up8}
 use Rattle.octets.specs.Numbers.{Bytes, Words}
 use Rattle.octets.specs.Scans.{Every, isFlowCharacter, isNameByte}
 use Rattle.sff_format.specs.Model.{Read, File, layoutHeader, layoutReads, layout}
-use Rattle.sff_format.specs.Rules.{leftLimit, rightLimit, declared, badIndex, walkRun, callRun}
+use Rattle.sff_format.specs.Rules.{leftLimit, rightLimit, declared, badIndex, walkedCount, matchedCount}
 
 -- a read of a file with these flow characters
 pub record ValidRead (characters : List ℕ) (read : Read) : Type 0 where
@@ -30,9 +30,9 @@ pub record ValidRead (characters : List ℕ) (read : Read) : Type 0 where
   pub increments-count : length (read .increments) ≡ length (read .bases)
   pub qualities-count : length (read .qualities) ≡ length (read .bases)
   -- "every flow position lies in 1 to F": the whole walk keeps the rule
-  pub walk-good : walkRun (length characters) 0 (read .increments) ≡ length (read .increments)
+  pub walk-good : walkedCount (length characters) 0 (read .increments) ≡ length (read .increments)
   -- "Base i is the flow character at its flow, or the letter N"
-  pub bases-good : callRun characters 0 (read .increments) (read .bases) ≡ length (read .bases)
+  pub bases-good : matchedCount characters 0 (read .increments) (read .bases) ≡ length (read .bases)
   -- "Qualities are any byte"
   pub bytes-good : Bytes (read .increments) × Bytes (read .bases) × Bytes (read .qualities)
 
@@ -41,8 +41,8 @@ ValidReads characters [] = Unit {0}
 ValidReads characters (read ∷ reads) = ValidRead characters read × ValidReads characters reads
 
 -- "where the offset says, at the end of the header or of a read"
-abbrev pub Boundary : File → ℕ → Type 0
-Boundary content place =
+abbrev pub IsBoundary : File → ℕ → Type 0
+IsBoundary content place =
     (k : ℕ) × (place ≡ length (layoutHeader content) + length (layoutReads (take k (content .reads))))
 
 pub record Valid (content : File) : Type 0 where
@@ -57,7 +57,7 @@ pub record Valid (content : File) : Type 0 where
   pub index-good : badIndex (content .index .offset) (length (content .index .bytes)) ≡ false
   -- an index stands "at the end of the header or of a read"
   pub index-met : declared (content .index .offset) (length (content .index .bytes)) ≡ true
-      → Boundary content (content .index .offset)
+      → IsBoundary content (content .index .offset)
   pub reads-good : ValidReads (content .flow-characters) (content .reads)
 
 -- "keeps the SFF rules": the bytes are such a file, written afresh

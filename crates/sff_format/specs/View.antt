@@ -9,7 +9,7 @@ use Rattle.octets.specs.Parts.{wholePart}
 use Rattle.octets.specs.Numbers.{wordsAt}
 use Rattle.answers.specs.declared.Answer.{Answer}
 use Rattle.answers.specs.Answer.{when, _then_}
-use Rattle.sff_format.specs.declared.Stretch.{Stretch}
+use Rattle.sff_format.specs.declared.Span.{Span}
 use Rattle.sff_format.specs.declared.ReadView.{ReadView}
 use Rattle.sff_format.specs.Model.{Read}
 use Rattle.sff_format.specs.ReadTest.{sectionLength, nameLength, baseCount, qualityLeft, qualityRight, adapterLeft, adapterRight}
@@ -34,8 +34,8 @@ viewAt F file place =
     }
 
 -- a stretch of the file, or of another list: none of it where it does not lie in the list whole
-abbrev pub bytesIn : List ℕ → Stretch → List ℕ
-bytesIn list stretch = wholePart (stretch .at) (stretch .size) list
+abbrev pub bytesIn : List ℕ → Span → List ℕ
+bytesIn list whole-part = wholePart (whole-part .at) (whole-part .size) list
 
 -- the read as it is handed out: each list from the bytes of its stretch, the values two bytes each
 unfoldable pub viewRead : List ℕ → ReadView → Read
@@ -59,15 +59,15 @@ viewFirst view = firstBase (view .«quality_left») (view .«adapter_left»)
 abbrev pub viewLast : ReadView → ℕ
 viewLast view = lastBase (view .bases .size) (view .«quality_right») (view .«adapter_right»)
 
-abbrev pub viewStretch : ReadView → Stretch
-viewStretch view = between (viewFirst view) (viewLast view)
+abbrev pub viewSpan : ReadView → Span
+viewSpan view = between (viewFirst view) (viewLast view)
 
 unfoldable pub insertIn : ReadView → List ℕ → List ℕ
-insertIn view xs = bytesIn xs (viewStretch view)
+insertIn view xs = bytesIn xs (viewSpan view)
 
 -- a stretch that does not lie in the file whole
-abbrev pub outside : List ℕ → Stretch → Bool
-outside file stretch = ltb (length file) (stretch .at + stretch .size)
+abbrev pub outside : List ℕ → Span → Bool
+outside file whole-part = ltb (length file) (whole-part .at + whole-part .size)
 
 -- an insert that is not empty and does not lie within the bases
 abbrev pub insertOutside : ReadView → Bool

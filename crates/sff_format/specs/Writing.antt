@@ -12,7 +12,7 @@ use Rattle.answers.specs.declared.Answer.{Answer}
 use Rattle.answers.specs.declared.Answer.the-variants.{Accepted}
 use Rattle.sff_format.specs.declared.Outcome.{Outcome}
 use Rattle.sff_format.specs.declared.Clips.{Clips}
-use Rattle.answers.specs.Answer.{when, own, _then_, acceptedOr}
+use Rattle.answers.specs.Answer.{when, zeroPlace, _then_, acceptedOr}
 use Rattle.sff_format.specs.Rules.{declared}
 use Rattle.sff_format.specs.Model.{Read, File, noIndex, layoutRead, layout}
 use Rattle.sff_format.specs.HeaderTest.{indexOffset, indexLength, readCount, flowCharacters}
@@ -71,9 +71,9 @@ givenTest characters read =
     (length (read .bases)) (length (read .qualities))) 30 0
     then when (ltb 65512 (length (read .name))) 5 0
     then when (fails isNameByte (read .name)) 6 0
-    then own (clipTest 0 (length (read .bases)) (read .quality-left) (read .quality-right)
+    then zeroPlace (clipTest 0 (length (read .bases)) (read .quality-left) (read .quality-right)
     (read .adapter-left) (read .adapter-right))
-    then own (basesTest characters (read .increments) (read .bases))
+    then zeroPlace (basesTest characters (read .increments) (read .bases))
 
 -- the file's own refusal; "25 an index is present; 31 reads already 4,294,967,295"
 unfoldable pub openTest : List ℕ → Answer
@@ -106,26 +106,26 @@ abbrev pub AppendLeaves : List ℕ → ℕ → Read → Outcome → List ℕ →
 AppendLeaves buffer len read answered after = (answered ≡ appendOutcome buffer len read) × (after ≡ appendBuffer buffer len read)
 
 -- what a writer leaves: its answer and the buffer
-pub record Left : Type 0 where
+pub record WriteResult : Type 0 where
   pub outcome : Outcome
   pub buffer : List ℕ
 
-abbrev pub newIn : List ℕ → List ℕ → List ℕ → Left
+abbrev pub newIn : List ℕ → List ℕ → List ℕ → WriteResult
 newIn buffer flow-characters key = record { outcome = newOutcome buffer flow-characters key; buffer = newBuffer buffer flow-characters key }
 
-abbrev pub appendTo : Left → Read → Left
+abbrev pub appendTo : WriteResult → Read → WriteResult
 appendTo left read = record {
   outcome = appendOutcome (left .buffer) (left .outcome .length) read;
   buffer = appendBuffer (left .buffer) (left .outcome .length) read;
 }
 
 -- an append for each read, up to one that is refused
-unfoldable pub appendEach : Left → List Read → Left
+unfoldable pub appendEach : WriteResult → List Read → WriteResult
 appendEach left [] = left
 appendEach left (read ∷ reads) = acceptedOr (left .outcome .answer) (appendEach (appendTo left read) reads) left
 
 -- "a new file and an append for each read"
-unfoldable pub writeEach : List ℕ → File → Left
+unfoldable pub writeEach : List ℕ → File → WriteResult
 writeEach buffer content = appendEach (newIn buffer (content .flow-characters) (content .key)) (content .reads)
 
 -- an accepted file with these flow characters that holds the read
@@ -139,11 +139,11 @@ pub record Holder (characters : List ℕ) (read : Read) : Type 0 where
   pub holds : readAt (parse file) position ≡ read
 
 -- what slices of bytes and of 16-bit numbers can hold
-pub record Lent (read : Read) : Type 0 where
+pub record FitsSlices (read : Read) : Type 0 where
   pub clips-fit : Words (read .quality-left ∷ read .quality-right ∷ read .adapter-left ∷ read .adapter-right ∷ [])
   pub values-fit : Words (read .values)
   pub bytes-good : Bytes (read .increments) × Bytes (read .bases) × Bytes (read .qualities)
 
-abbrev pub AllLent : List Read → Type 0
-AllLent [] = Unit {0}
-AllLent (read ∷ reads) = Lent read × AllLent reads
+abbrev pub AllFitSlices : List Read → Type 0
+AllFitSlices [] = Unit {0}
+AllFitSlices (read ∷ reads) = FitsSlices read × AllFitSlices reads

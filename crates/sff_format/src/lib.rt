@@ -2,7 +2,7 @@
 use answers::Answer;
 
 // Bytes of a file, or entries of a list: the place of the first, and how many.
-pub struct Stretch {
+pub struct Span {
     pub at: usize,
     pub size: usize,
 }
@@ -16,11 +16,11 @@ pub struct Boundary {
 // What a step says of a read: its place, where its contents lie, and its clips.
 pub struct ReadView {
     pub place: usize,
-    pub name: Stretch,
-    pub values: Stretch,
-    pub increments: Stretch,
-    pub bases: Stretch,
-    pub qualities: Stretch,
+    pub name: Span,
+    pub values: Span,
+    pub increments: Span,
+    pub bases: Span,
+    pub qualities: Span,
     pub quality_left: usize,
     pub quality_right: usize,
     pub adapter_left: usize,

@@ -17,7 +17,7 @@ headerOf file = record {
 }
 
 -- each field is below the limit of its width; the index offset has 64 bits, as every number of the code
-pub record Small (header : Header) : Type 0 where
+pub record FieldsFit (header : Header) : Type 0 where
   pub index-length-small : header .«index_length» < 4294967296
   pub reads-small : header .reads < 4294967296
   pub length-small : header .length < 65536

@@ -4,25 +4,25 @@ ghost use mathlib.Core.Path.{_≡_};
 ghost use Prim.Native.Nat.{_≤_};
 ghost use lib.ListN.{length};
 ghost use Rattle.sff_format.specs.Rules.{declared, indexSize};
-ghost use Rattle.sff_header.specs.Header.{headerOf, Small};
+ghost use Rattle.sff_header.specs.Header.{headerOf, FieldsFit};
 use crate::Header;
 use octets::inner::get16;
 use octets::inner::get32;
 use octets::inner::get64;
 
 // The header's fields, each read once.
-pub fn header_fields(s: &[u8]) -> Header
-    requires { ⌜ 31 ≤ length (now s) ⌝ }
-    ensures { λ r. ⌜ r ≡ headerOf (now (s .entry)) ⌝ }
-    ensures { λ r. ⌜ Small r ⌝ }
+pub fn header_fields(file: &[u8]) -> Header
+    requires { ⌜ 31 ≤ length (now file) ⌝ }
+    ensures { λ r. ⌜ r ≡ headerOf (now (file .entry)) ⌝ }
+    ensures { λ r. ⌜ FieldsFit r ⌝ }
 {
     Header {
-        index_offset: get64(s, 8),
-        index_length: get32(s, 16),
-        reads: get32(s, 20),
-        length: get16(s, 24),
-        key_length: get16(s, 26),
-        flows: get16(s, 28),
+        index_offset: get64(file, 8),
+        index_length: get32(file, 16),
+        reads: get32(file, 20),
+        length: get16(file, 24),
+        key_length: get16(file, 26),
+        flows: get16(file, 28),
     }
 }
 

@@ -6,7 +6,7 @@ ghost use lib.ListN.{length};
 ghost use Rattle.octets.specs.Parts.{up8};
 ghost use Rattle.sff_format.specs.Rules.{badIndexLength, badIndex};
 ghost use Rattle.sff_format.specs.HeaderTest.{fixedTest, charactersTest, headerTest, fileFlowCharacters, fileKey};
-ghost use Rattle.sff_header.specs.Header.{headerOf, Small};
+ghost use Rattle.sff_header.specs.Header.{headerOf, FieldsFit};
 
 pub mod inner;
 
@@ -16,7 +16,7 @@ use octets::ByteTest;
 use octets::inner::first_not;
 use octets::inner::get32;
 use octets::inner::up8;
-use octets::stretch;
+use octets::whole_part;
 
 // The fields of the common header that differ from file to file.
 pub struct Header {
@@ -43,7 +43,7 @@ fn bad_index(offset: usize, index_length: usize) -> bool
 
 // 31+F+K: where flow and key characters end.
 fn characters_end(header: Header) -> usize
-    requires { ⌜ Small header ⌝ }
+    requires { ⌜ FieldsFit header ⌝ }
     ensures { λ r. ⌜ r ≡ 31 + header .flows + header .«key_length» ⌝ }
 {
     31 + header.flows + header.key_length
@@ -51,19 +51,19 @@ fn characters_end(header: Header) -> usize
 
 // The fields that are the same in every file, and the header length: magic (2), version (3), format code (4), length
 // (5).
-fn fixed_test(s: &[u8], header: Header) -> Answer
-    requires { ⌜ 31 ≤ length (now s) ⌝ }
-    requires { ⌜ header ≡ headerOf (now s) ⌝ }
-    requires { ⌜ Small header ⌝ }
-    ensures { λ r. ⌜ r ≡ fixedTest (now (s .entry)) ⌝ }
+fn fixed_test(file: &[u8], header: Header) -> Answer
+    requires { ⌜ 31 ≤ length (now file) ⌝ }
+    requires { ⌜ header ≡ headerOf (now file) ⌝ }
+    requires { ⌜ FieldsFit header ⌝ }
+    ensures { λ r. ⌜ r ≡ fixedTest (now (file .entry)) ⌝ }
 {
-    if get32(s, 0) != 0x2E736666 {
+    if get32(file, 0) != 0x2E736666 {
         return Answer::Refused(2, 0);
     }
-    if get32(s, 4) != 1 {
+    if get32(file, 4) != 1 {
         return Answer::Refused(3, 4);
     }
-    if s[30] != 1 {
+    if file[30] != 1 {
         return Answer::Refused(4, 30);
     }
     if header.length != up8(characters_end(header)) {
@@ -73,20 +73,20 @@ fn fixed_test(s: &[u8], header: Header) -> Answer
 }
 
 // Behind the fields, and the index: flow and key characters (6), padding (7), index fields (8).
-fn characters_test(s: &[u8], header: Header) -> Answer
-    requires { ⌜ header ≡ headerOf (now s) ⌝ }
-    requires { ⌜ Small header ⌝ }
+fn characters_test(file: &[u8], header: Header) -> Answer
+    requires { ⌜ header ≡ headerOf (now file) ⌝ }
+    requires { ⌜ FieldsFit header ⌝ }
     requires { ⌜ header .length ≡ up8 (31 + header .flows + header .«key_length») ⌝ }
-    requires { ⌜ header .length ≤ length (now s) ⌝ }
-    ensures { λ r. ⌜ r ≡ charactersTest (now (s .entry)) ⌝ }
+    requires { ⌜ header .length ≤ length (now file) ⌝ }
+    ensures { λ r. ⌜ r ≡ charactersTest (now (file .entry)) ⌝ }
 {
     let padding = characters_end(header);
     let end = header.length;
-    let other = first_not(ByteTest::FlowCharacter, s, 31, padding);
+    let other = first_not(ByteTest::FlowCharacter, file, 31, padding);
     if other < padding {
         return Answer::Refused(6, other);
     }
-    let other = first_not(ByteTest::Zero, s, padding, end);
+    let other = first_not(ByteTest::Zero, file, padding, end);
     if other < end {
         return Answer::Refused(7, other);
     }
@@ -98,43 +98,43 @@ fn characters_test(s: &[u8], header: Header) -> Answer
 
 // All of the header's tests, in their order, on any bytes: under 31 bytes (1), the fixed fields and the length (2, 3,
 // 4, 5), under its own length (1), characters, padding and index (6, 7, 8).
-pub fn header_test(s: &[u8]) -> Answer
-    ensures { λ r. ⌜ r ≡ headerTest (now (s .entry)) ⌝ }
+pub fn header_test(file: &[u8]) -> Answer
+    ensures { λ r. ⌜ r ≡ headerTest (now (file .entry)) ⌝ }
 {
-    if s.len() < 31 {
+    if file.len() < 31 {
         return Answer::Refused(1, 0);
     }
-    let header = inner::header_fields(s);
-    let fixed = fixed_test(s, header);
+    let header = inner::header_fields(file);
+    let fixed = fixed_test(file, header);
     let Answer::Accepted = fixed else {
         return fixed;
     };
-    if s.len() < header.length {
+    if file.len() < header.length {
         return Answer::Refused(1, 0);
     }
-    characters_test(s, header)
+    characters_test(file, header)
 }
 
 // The flow characters, none where the header is refused: `header_test` then gives the number.
-pub fn flow_characters(s: &[u8]) -> &[u8]
-    ensures { λ r. ⌜ now r ≡ fileFlowCharacters (now (s .entry)) ⌝ }
+pub fn flow_characters(file: &[u8]) -> &[u8]
+    ensures { λ r. ⌜ now r ≡ fileFlowCharacters (now (file .entry)) ⌝ }
 {
-    let answer = header_test(s);
+    let answer = header_test(file);
     let Answer::Accepted = answer else {
-        return &s[..0];
+        return &file[..0];
     };
-    let header = inner::header_fields(s);
-    stretch(s, 31, header.flows)
+    let header = inner::header_fields(file);
+    whole_part(file, 31, header.flows)
 }
 
 // The key characters, none where the header is refused.
-pub fn key(s: &[u8]) -> &[u8]
-    ensures { λ r. ⌜ now r ≡ fileKey (now (s .entry)) ⌝ }
+pub fn key(file: &[u8]) -> &[u8]
+    ensures { λ r. ⌜ now r ≡ fileKey (now (file .entry)) ⌝ }
 {
-    let answer = header_test(s);
+    let answer = header_test(file);
     let Answer::Accepted = answer else {
-        return &s[..0];
+        return &file[..0];
     };
-    let header = inner::header_fields(s);
-    stretch(s, 31 + header.flows, header.key_length)
+    let header = inner::header_fields(file);
+    whole_part(file, 31 + header.flows, header.key_length)
 }

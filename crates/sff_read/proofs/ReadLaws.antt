@@ -47,22 +47,22 @@ data-tested b F d n h e f = rw (length-part 31 F b h, ← e) f
 -- increments and bases tested as parts of the file
 module _ (b : List ℕ) (F at n : ℕ) {a : Answer}
     (e : a ≡ basesTest (part 31 (31 + F - 31) b) (part at (at + n - at) b) (part (at + n) (at + n + n - (at + n)) b)) where
-  called : a ≡ basesTest (part 31 F b) (part at n b) (part (at + n) n b)
-  called =
+  matched : a ≡ basesTest (part 31 F b) (part at n b) (part (at + n) n b)
+  matched =
       let f : 31 + F - 31 ≡ F = omega arith in
       let g : at + n - at ≡ n = omega arith in
       let h : at + n + n - (at + n) ≡ n = omega arith in
       rw (f, g, h) at e
 
-  pub called-all : a ≡ Accepted → a ≡ shifted at (basesTest (part 31 F b) (part at n b) (part (at + n) n b))
+  pub matched-all : a ≡ Accepted → a ≡ shifted at (basesTest (part 31 F b) (part at n b) (part (at + n) n b))
   unfolding shifted
-  called-all t = t ∙ sym (rw (← called, t))
+  matched-all t = t ∙ sym (rw (← matched, t))
 
-  pub called-stop : {m p : ℕ} → a ≡ Refused m p → Refused m (at + p) ≡ shifted at (basesTest (part 31 F b) (part at n b) (part (at + n) n b))
+  pub matched-stop : {m p : ℕ} → a ≡ Refused m p → Refused m (at + p) ≡ shifted at (basesTest (part 31 F b) (part at n b) (part (at + n) n b))
   unfolding shifted
-  called-stop t = sym (rw (← called, t))
+  matched-stop t = sym (rw (← matched, t))
 
-  pub called-in : {m p : ℕ} → a ≡ Refused m p → at + n + n ≤ length b → at + p ≤ length b
-  called-in {m} {p} t h =
-      let l = bases-in (part 31 F b) (part at n b) (part (at + n) n b) m p (sym called ∙ t) in
+  pub matched-in : {m p : ℕ} → a ≡ Refused m p → at + n + n ≤ length b → at + p ≤ length b
+  matched-in {m} {p} t h =
+      let l = bases-in (part 31 F b) (part at n b) (part (at + n) n b) m p (sym matched ∙ t) in
       omega (arith, l, length-part at n b (omega arith), length-part (at + n) n b (omega arith))

@@ -26,7 +26,7 @@ use Rattle.sff_format.proofs.Steps.{past-fits, header-accepted, place-inside, o
 use Rattle.sff_header.specs.declared.Header.{Header}
 use Rattle.sff_header.specs.Header.{headerOf}
 use Rattle.sff_header.proofs.Fields.{reads-of, length-of, flows-of}
-use Rattle.sff.proofs.Sections.{due-is}
+use Rattle.sff_file.proofs.Sections.{due-is}
 
 -- where a fresh reader stands, by what the header's test answered
 module _ (b : List ℕ) {x : Answer} (t : x ≡ headerTest b) where

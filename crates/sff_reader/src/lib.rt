@@ -6,14 +6,14 @@ ghost use Rattle.answers.specs.declared.Answer.the-variants.{Accepted};
 ghost use Rattle.sff_format.specs.HeaderTest.{headerTest};
 ghost use Rattle.sff_format.specs.FileTest.{indexTest};
 ghost use Rattle.sff_format.specs.Step.{fresh, freshPlace, step, stepTest, readOrNone};
-ghost use Rattle.sff_header.specs.Header.{headerOf, Small};
+ghost use Rattle.sff_header.specs.Header.{headerOf, FieldsFit};
 ghost use Rattle.sff_reader.specs.Forms.{stateOf, stepOf};
 use answers::Answer;
-use sff::inner::end_test;
-use sff::inner::index_due;
-use sff::inner::next_boundary;
-use sff::inner::pass_test;
-use sff::inner::past_index;
+use sff_file::inner::end_test;
+use sff_file::inner::index_due;
+use sff_file::inner::next_boundary;
+use sff_file::inner::pass_test;
+use sff_file::inner::past_index;
 use sff_format::Boundary;
 use sff_format::ReadView;
 use sff_header::Header;
@@ -36,17 +36,17 @@ pub enum Step {
 }
 
 // Past an index: the read's tests; with no read left those of the file's end (13, 12), or else 33.
-fn read_or_none(s: &[u8], header: Header, place: usize, reads: usize, passed: bool) -> Answer
-    requires { ⌜ headerTest (now s) ≡ Accepted ⌝ }
-    requires { ⌜ header ≡ headerOf (now s) ⌝ }
-    requires { ⌜ Small header ⌝ }
-    requires { ⌜ place ≤ length (now s) ⌝ }
-    ensures { λ r. ⌜ r ≡ readOrNone (now (s .entry)) place reads passed ⌝ }
+fn read_or_none(file: &[u8], header: Header, place: usize, reads: usize, passed: bool) -> Answer
+    requires { ⌜ headerTest (now file) ≡ Accepted ⌝ }
+    requires { ⌜ header ≡ headerOf (now file) ⌝ }
+    requires { ⌜ FieldsFit header ⌝ }
+    requires { ⌜ place ≤ length (now file) ⌝ }
+    ensures { λ r. ⌜ r ≡ readOrNone (now (file .entry)) place reads passed ⌝ }
 {
     if reads < header.reads {
-        return read_test(s, place, header.flows);
+        return read_test(file, place, header.flows);
     }
-    let end = end_test(s, header, place, passed);
+    let end = end_test(file, header, place, passed);
     let Answer::Accepted = end else {
         return end;
     };
@@ -54,89 +54,89 @@ fn read_or_none(s: &[u8], header: Header, place: usize, reads: usize, passed: bo
 }
 
 // An index that is due and cut short (1).
-fn index_test(s: &[u8], header: Header, place: usize, passed: bool) -> Answer
-    requires { ⌜ header ≡ headerOf (now s) ⌝ }
-    requires { ⌜ Small header ⌝ }
-    requires { ⌜ place ≤ length (now s) ⌝ }
-    ensures { λ r. ⌜ r ≡ indexTest (now (s .entry)) place passed ⌝ }
+fn index_test(file: &[u8], header: Header, place: usize, passed: bool) -> Answer
+    requires { ⌜ header ≡ headerOf (now file) ⌝ }
+    requires { ⌜ FieldsFit header ⌝ }
+    requires { ⌜ place ≤ length (now file) ⌝ }
+    ensures { λ r. ⌜ r ≡ indexTest (now (file .entry)) place passed ⌝ }
 {
     if index_due(header, place, passed) {
-        return pass_test(s, header, place);
+        return pass_test(file, header, place);
     }
     Answer::Accepted
 }
 
-fn step_test(s: &[u8], reader: Reader) -> Answer
-    ensures { λ r. ⌜ r ≡ stepTest (now (s .entry)) (stateOf reader) ⌝ }
+fn step_test(file: &[u8], reader: Reader) -> Answer
+    ensures { λ r. ⌜ r ≡ stepTest (now (file .entry)) (stateOf reader) ⌝ }
 {
-    let head = header_test(s);
+    let head = header_test(file);
     let Answer::Accepted = head else {
         return head;
     };
     let place = reader.place;
     let passed = reader.passed_index;
-    if s.len() < place {
+    if file.len() < place {
         return Answer::Refused(1, place);
     }
-    let header = header_fields(s);
-    let index = index_test(s, header, place, passed);
+    let header = header_fields(file);
+    let index = index_test(file, header, place, passed);
     let Answer::Accepted = index else {
         return index;
     };
-    let here = past_index(s, header, Boundary { place, passed });
-    read_or_none(s, header, here.place, reader.passed_reads, here.passed)
+    let here = past_index(file, header, Boundary { place, passed });
+    read_or_none(file, header, here.place, reader.passed_reads, here.passed)
 }
 
 // The read that a step found, and the reader after it.
-fn found(s: &[u8], reader: Reader) -> Step
-    requires { ⌜ stepTest (now s) (stateOf reader) ≡ Accepted ⌝ }
-    ensures { λ r. ⌜ stepOf r ≡ step (now (s .entry)) (stateOf reader) ⌝ }
+fn found(file: &[u8], reader: Reader) -> Step
+    requires { ⌜ stepTest (now file) (stateOf reader) ≡ Accepted ⌝ }
+    ensures { λ r. ⌜ stepOf r ≡ step (now (file .entry)) (stateOf reader) ⌝ }
 {
-    let header = header_fields(s);
+    let header = header_fields(file);
     let flows = header.flows;
     let at = Boundary {
         place: reader.place,
         passed: reader.passed_index,
     };
-    let start = past_index(s, header, at);
-    let after = next_boundary(s, header, start);
+    let start = past_index(file, header, at);
+    let after = next_boundary(file, header, start);
     let next = Reader {
         place: after.place,
         passed_reads: reader.passed_reads + 1,
         passed_index: after.passed,
     };
-    Step::Found(read_view(s, start.place, flows), next)
+    Step::Found(read_view(file, start.place, flows), next)
 }
 
 impl Reader {
     // Stands at the end of an accepted header, else at 0.
-    pub fn fresh(s: &[u8]) -> Reader
-        ensures { λ r. ⌜ stateOf r ≡ fresh (now (s .entry)) ⌝ }
+    pub fn fresh(file: &[u8]) -> Reader
+        ensures { λ r. ⌜ stateOf r ≡ fresh (now (file .entry)) ⌝ }
     {
         Reader {
-            place: fresh_place(s),
+            place: fresh_place(file),
             passed_reads: 0,
             passed_index: false,
         }
     }
 
     // For every state: the read and the next reader, or a refusal and this one.
-    pub fn step(self, s: &[u8]) -> Step
-        ensures { λ r. ⌜ stepOf r ≡ step (now (s .entry)) (stateOf self) ⌝ }
+    pub fn step(self, file: &[u8]) -> Step
+        ensures { λ r. ⌜ stepOf r ≡ step (now (file .entry)) (stateOf self) ⌝ }
     {
-        if let Answer::Refused(number, place) = step_test(s, self) {
+        if let Answer::Refused(number, place) = step_test(file, self) {
             return Step::Stopped(number, place, self);
         }
-        found(s, self)
+        found(file, self)
     }
 }
 
-fn fresh_place(s: &[u8]) -> usize
-    ensures { λ r. ⌜ r ≡ freshPlace (headerTest (now (s .entry))) (now (s .entry)) ⌝ }
+fn fresh_place(file: &[u8]) -> usize
+    ensures { λ r. ⌜ r ≡ freshPlace (headerTest (now (file .entry))) (now (file .entry)) ⌝ }
 {
-    let head = header_test(s);
+    let head = header_test(file);
     let Answer::Accepted = head else {
         return 0;
     };
-    header_fields(s).length
+    header_fields(file).length
 }

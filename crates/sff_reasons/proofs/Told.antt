@@ -27,16 +27,16 @@ use Rattle.sff_format.proofs.ReadLaid.{fits-16, section-is, section-fits, name-
 use Rattle.sff_format.proofs.FileLaid.{head-ok, reads-counted, index-passed, file-laid}
 use Rattle.sff_format.proofs.Places.{read-found}
 use Rattle.sff_format.proofs.Positions.{read-accepted}
-use Rattle.sff_correction.specs.declared.Fields.{Fields}
-use Rattle.sff_correction.specs.Record.{kind, oldName, newName, newQualityLeft, newQualityRight, newAdapterLeft, newAdapterRight}
-use Rattle.sff_correction.specs.Correction.{Change, clips, rename, remove, isClips}
-use Rattle.sff_correction.specs.RecordLayout.{changeIn}
-use Rattle.sff_correction.specs.Fields.{asked}
-use Rattle.sff_correction.specs.Edit.{target, edited}
-use Rattle.sff_correction.specs.Reasons.{hasTarget, clipsAbove, others, bears, takesName, positionAbove, otherName, indexPresent, clipAbove, nameBorne, noRoom}
-use Rattle.sff_correction.proofs.Asked.{kind-of, clips-asked, rename-asked, new-length-of, old-inside, new-inside}
-use Rattle.sff_correction.proofs.EditedSizes.{clips-size, name-size, none-size}
-use Rattle.sff_reasons.specs.Found.{Found}
+use Rattle.correction_format.specs.declared.Fields.{Fields}
+use Rattle.correction_format.specs.Record.{kind, oldName, newName, newQualityLeft, newQualityRight, newAdapterLeft, newAdapterRight}
+use Rattle.correction_format.specs.Correction.{Change, clips, rename, remove, isClips}
+use Rattle.correction_format.specs.RecordLayout.{changeIn}
+use Rattle.correction_format.specs.Fields.{asked}
+use Rattle.correction_format.specs.Edit.{target, edited}
+use Rattle.correction_format.specs.Reasons.{hasTarget, clipsAbove, others, nameAmong, newNameAmong, positionAbove, otherName, indexPresent, clipAbove, nameTaken, noRoom}
+use Rattle.correction_format.proofs.Asked.{kind-of, clips-asked, rename-asked, new-length-of, old-inside, new-inside}
+use Rattle.correction_format.proofs.EditedSizes.{clips-size, name-size, none-size}
+use Rattle.sff_reasons.specs.ReadAtPosition.{ReadAtPosition}
 
 -- a name beside the n bytes at p: they differ where the lengths do
 module _ (name b : List ℕ) (p n : ℕ) {m : ℕ} (e : m ≡ n) where
@@ -71,7 +71,7 @@ module _ (b r : List ℕ) (x : Fields) (room : ℕ) where
   unfolding positionAbove
   below-count e = rw (reads-counted b) at (ltb-true (x .position) (length (parse b .reads)) (not-false _ e))
 
-module _ {b r : List ℕ} {x : Fields} (s : Found b r x) where
+module _ {b r : List ℕ} {x : Fields} (s : ReadAtPosition b r x) where
   -- what holds of every change that a record of another kind asks for
   not-clips : (P : Change → Type 0) → (x .kind ≡ 1 → ⊥) → P (rename (newName r)) → P remove → P (changeIn r)
   unfolding changeIn
@@ -110,12 +110,12 @@ module _ {b r : List ℕ} {x : Fields} (s : Found b r x) where
     index-told k e = rw (not-clips (λ y. isClips y ≡ false) k refl refl, index-length b (index-passed b (s .bytes) (s .accepted))) e
 
     -- another read's name (24): only a rename can take one
-    pub none-borne : (x .kind ≡ 2 → ⊥) → false ≡ nameBorne room (asked x r) (parse b)
-    unfolding nameBorne takesName
-    none-borne k = rw (has-target, not-rename (λ y. takesName y (others (asked x r) (parse b)) ≡ false) k refl refl)
+    pub none-borne : (x .kind ≡ 2 → ⊥) → false ≡ nameTaken room (asked x r) (parse b)
+    unfolding nameTaken newNameAmong
+    none-borne k = rw (has-target, not-rename (λ y. newNameAmong y (others (asked x r) (parse b)) ≡ false) k refl refl)
 
-    pub borne-told : x .kind ≡ 2 → {t : Bool} → t ≡ bears (newName r) (others (asked x r) (parse b)) → t ≡ nameBorne room (asked x r) (parse b)
-    unfolding nameBorne takesName
+    pub borne-told : x .kind ≡ 2 → {t : Bool} → t ≡ nameAmong (newName r) (others (asked x r) (parse b)) → t ≡ nameTaken room (asked x r) (parse b)
+    unfolding nameTaken newNameAmong
     borne-told k e = rw (has-target, rename-asked x r (s .fields-of) k) e
 
     -- room (26): only a longer name can lack it

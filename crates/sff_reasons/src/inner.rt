@@ -12,100 +12,100 @@ ghost use Rattle.sff_format.specs.ReadTest.{nameLength};
 ghost use Rattle.sff_format.specs.FileTest.{fileTest};
 ghost use Rattle.sff_format.specs.Parse.{parse};
 ghost use Rattle.sff_format.specs.Places.{readPlace, replaced};
-ghost use Rattle.sff_correction.specs.Record.{recordTest};
-ghost use Rattle.sff_correction.specs.Fields.{FieldsOf, asked};
-ghost use Rattle.sff_correction.specs.Reasons.{bears, positionAbove, otherName, indexPresent, clipAbove, nameBorne, noRoom, reasons};
-ghost use Rattle.sff_reasons.specs.Found.{Found};
+ghost use Rattle.correction_format.specs.Record.{recordTest};
+ghost use Rattle.correction_format.specs.Fields.{FieldsOf, asked};
+ghost use Rattle.correction_format.specs.Reasons.{nameAmong, positionAbove, otherName, indexPresent, clipAbove, nameTaken, noRoom, reasons};
+ghost use Rattle.sff_reasons.specs.ReadAtPosition.{ReadAtPosition};
 use answers::Answer;
+use correction_format::Fields;
 use octets::inner::get16;
 use octets::inner::get32;
 use octets::inner::same_part;
 use octets::inner::up8;
-use sff::inner::first_boundary;
-use sff::inner::next_boundary;
-use sff::inner::past_index;
 use sff_clips::inner::clip_test;
-use sff_correction::Fields;
+use sff_file::inner::first_boundary;
+use sff_file::inner::next_boundary;
+use sff_file::inner::past_index;
 use sff_header::inner::header_fields;
 use sff_header::inner::is_declared;
 use sff_record::inner::new_name;
 use sff_record::inner::old_name;
 use sff_walk::BasePosition;
 
-// Whether the read at p has the name.
-fn has_name(s: &[u8], p: usize, name: &[u8]) -> bool
-    requires { ⌜ p + 16 + nameLength (now s) p ≤ length (now s) ⌝ }
-    ensures { λ r. ⌜ r ≡ same (now (name .entry)) (part (p + 16) (nameLength (now (s .entry)) p) (now (s .entry))) ⌝ }
+// Whether the read at `place` has the name.
+fn has_name(file: &[u8], place: usize, name: &[u8]) -> bool
+    requires { ⌜ place + 16 + nameLength (now file) place ≤ length (now file) ⌝ }
+    ensures { λ r. ⌜ r ≡ same (now (name .entry)) (part (place + 16) (nameLength (now (file .entry)) place) (now (file .entry))) ⌝ }
 {
-    if name.len() != get16(s, p + 2) {
+    if name.len() != get16(file, place + 2) {
         return false;
     }
-    same_part(name, 0, s, p + 16, name.len())
+    same_part(name, 0, file, place + 16, name.len())
 }
 
 // Whether a read has the name, but for the one at the position.
-fn bears(s: &[u8], position: usize, name: &[u8]) -> bool
-    requires { ⌜ fileTest (now s) ≡ Accepted ⌝ }
-    ensures { λ r. ⌜ r ≡ bears (now (name .entry)) (replaced position [] (parse (now (s .entry)) .reads)) ⌝ }
+fn name_among(file: &[u8], position: usize, name: &[u8]) -> bool
+    requires { ⌜ fileTest (now file) ≡ Accepted ⌝ }
+    ensures { λ r. ⌜ r ≡ nameAmong (now (name .entry)) (replaced position [] (parse (now (file .entry)) .reads)) ⌝ }
 {
-    let header = header_fields(s);
-    let mut at = first_boundary(s, header);
+    let header = header_fields(file);
+    let mut at = first_boundary(file, header);
     let mut behind = 0;
     while behind < header.reads {
-        let start = past_index(s, header, at);
-        if (behind != position) & has_name(s, start.place, name) {
+        let start = past_index(file, header, at);
+        if (behind != position) & has_name(file, start.place, name) {
             return true;
         }
-        at = next_boundary(s, header, start);
+        at = next_boundary(file, header, start);
         behind += 1;
     }
     false
 }
 
 // 21: the position is not below the number of reads.
-pub fn position_above(s: &[u8], fields: Fields, record: &[u8]) -> bool
-    requires { ⌜ fileTest (now s) ≡ Accepted ⌝ }
-    ensures { λ r. ⌜ ((room : ℕ) → r ≡ positionAbove room (asked fields (now («record» .entry))) (parse (now (s .entry)))) ⌝ }
+pub fn position_above(file: &[u8], fields: Fields, record: &[u8]) -> bool
+    requires { ⌜ fileTest (now file) ≡ Accepted ⌝ }
+    ensures { λ r. ⌜ ((room : ℕ) → r ≡ positionAbove room (asked fields (now («record» .entry))) (parse (now (file .entry)))) ⌝ }
 {
-    if fields.position < get32(s, 20) {
+    if fields.position < get32(file, 20) {
         return false;
     }
     true
 }
 
 // 22: the read has another name.
-pub fn other_name(s: &[u8], place: usize, fields: Fields, record: &[u8]) -> bool
-    requires { ⌜ Found (now s) (now «record») fields ⌝ }
-    requires { ⌜ place ≡ readPlace (now s) (fields .position) ⌝ }
-    ensures { λ r. ⌜ ((room : ℕ) → r ≡ otherName room (asked fields (now («record» .entry))) (parse (now (s .entry)))) ⌝ }
+pub fn other_name(file: &[u8], place: usize, fields: Fields, record: &[u8]) -> bool
+    requires { ⌜ ReadAtPosition (now file) (now «record») fields ⌝ }
+    requires { ⌜ place ≡ readPlace (now file) (fields .position) ⌝ }
+    ensures { λ r. ⌜ ((room : ℕ) → r ≡ otherName room (asked fields (now («record» .entry))) (parse (now (file .entry)))) ⌝ }
 {
-    !has_name(s, place, old_name(record, fields))
+    !has_name(file, place, old_name(record, fields))
 }
 
 // 25: a rename or a removal, and the file has an index.
-pub fn index_present(s: &[u8], fields: Fields, record: &[u8]) -> bool
-    requires { ⌜ Found (now s) (now «record») fields ⌝ }
-    ensures { λ r. ⌜ ((room : ℕ) → r ≡ indexPresent room (asked fields (now («record» .entry))) (parse (now (s .entry)))) ⌝ }
+pub fn index_present(file: &[u8], fields: Fields, record: &[u8]) -> bool
+    requires { ⌜ ReadAtPosition (now file) (now «record») fields ⌝ }
+    ensures { λ r. ⌜ ((room : ℕ) → r ≡ indexPresent room (asked fields (now («record» .entry))) (parse (now (file .entry)))) ⌝ }
 {
     if fields.kind == 1 {
         return false;
     }
-    let header = header_fields(s);
+    let header = header_fields(file);
     is_declared(header.index_offset, header.index_length)
 }
 
 // 23: a new clip is above the read's number of bases.
-pub fn clip_above(s: &[u8], place: usize, fields: Fields, record: &[u8]) -> bool
-    requires { ⌜ Found (now s) (now «record») fields ⌝ }
-    requires { ⌜ place ≡ readPlace (now s) (fields .position) ⌝ }
-    ensures { λ r. ⌜ ((room : ℕ) → r ≡ clipAbove room (asked fields (now («record» .entry))) (parse (now (s .entry)))) ⌝ }
+pub fn clip_above(file: &[u8], place: usize, fields: Fields, record: &[u8]) -> bool
+    requires { ⌜ ReadAtPosition (now file) (now «record») fields ⌝ }
+    requires { ⌜ place ≡ readPlace (now file) (fields .position) ⌝ }
+    ensures { λ r. ⌜ ((room : ℕ) → r ≡ clipAbove room (asked fields (now («record» .entry))) (parse (now (file .entry)))) ⌝ }
 {
     if fields.kind != 1 {
         return false;
     }
     let clips = clip_test(
         0,
-        get32(s, place + 4),
+        get32(file, place + 4),
         BasePosition(fields.quality_left),
         BasePosition(fields.quality_right),
         BasePosition(fields.adapter_left),
@@ -118,52 +118,52 @@ pub fn clip_above(s: &[u8], place: usize, fields: Fields, record: &[u8]) -> bool
 }
 
 // 24: a rename to a name that another read bears.
-pub fn name_borne(s: &[u8], fields: Fields, record: &[u8]) -> bool
-    requires { ⌜ Found (now s) (now «record») fields ⌝ }
-    ensures { λ r. ⌜ ((room : ℕ) → r ≡ nameBorne room (asked fields (now («record» .entry))) (parse (now (s .entry)))) ⌝ }
+pub fn name_taken(file: &[u8], fields: Fields, record: &[u8]) -> bool
+    requires { ⌜ ReadAtPosition (now file) (now «record») fields ⌝ }
+    ensures { λ r. ⌜ ((room : ℕ) → r ≡ nameTaken room (asked fields (now («record» .entry))) (parse (now (file .entry)))) ⌝ }
 {
     if fields.kind != 2 {
         return false;
     }
-    bears(s, fields.position, new_name(record, fields))
+    name_among(file, fields.position, new_name(record, fields))
 }
 
 // 26: the file with the new name does not fit into a buffer of `room` bytes, into which it fits as it is.
-pub fn no_room(s: &[u8], room: usize, place: usize, fields: Fields, record: &[u8]) -> bool
-    requires { ⌜ Found (now s) (now «record») fields ⌝ }
-    requires { ⌜ place ≡ readPlace (now s) (fields .position) ⌝ }
-    requires { ⌜ length (now s) ≤ room ⌝ }
-    ensures { λ r. ⌜ r ≡ noRoom room (asked fields (now («record» .entry))) (parse (now (s .entry))) ⌝ }
+pub fn no_room(file: &[u8], room: usize, place: usize, fields: Fields, record: &[u8]) -> bool
+    requires { ⌜ ReadAtPosition (now file) (now «record») fields ⌝ }
+    requires { ⌜ place ≡ readPlace (now file) (fields .position) ⌝ }
+    requires { ⌜ length (now file) ≤ room ⌝ }
+    ensures { λ r. ⌜ r ≡ noRoom room (asked fields (now («record» .entry))) (parse (now (file .entry))) ⌝ }
 {
     if fields.kind != 2 {
         return false;
     }
-    room - s.len() + get16(s, place) < up8(16 + fields.new_length)
+    room - file.len() + get16(file, place) < up8(16 + fields.new_length)
 }
 
 // The first reason from 22 on against a record whose read stands at `place`, in a buffer of `room` bytes.
-pub fn reason(s: &[u8], room: usize, place: usize, fields: Fields, record: &[u8]) -> Answer
-    requires { ⌜ fileTest (now s) ≡ Accepted ⌝ }
+pub fn reason(file: &[u8], room: usize, place: usize, fields: Fields, record: &[u8]) -> Answer
+    requires { ⌜ fileTest (now file) ≡ Accepted ⌝ }
     requires { ⌜ recordTest (now «record») ≡ Accepted ⌝ }
     requires { ⌜ FieldsOf fields (now «record») ⌝ }
-    requires { ⌜ fields .position < readCount (now s) ⌝ }
-    requires { ⌜ place ≡ readPlace (now s) (fields .position) ⌝ }
-    requires { ⌜ length (now s) ≤ room ⌝ }
-    ensures { λ r. ⌜ r ≡ reasons room (asked fields (now («record» .entry))) (parse (now (s .entry))) ⌝ }
+    requires { ⌜ fields .position < readCount (now file) ⌝ }
+    requires { ⌜ place ≡ readPlace (now file) (fields .position) ⌝ }
+    requires { ⌜ length (now file) ≤ room ⌝ }
+    ensures { λ r. ⌜ r ≡ reasons room (asked fields (now («record» .entry))) (parse (now (file .entry))) ⌝ }
 {
-    if other_name(s, place, fields, record) {
+    if other_name(file, place, fields, record) {
         return Answer::Refused(22, 0);
     }
-    if index_present(s, fields, record) {
+    if index_present(file, fields, record) {
         return Answer::Refused(25, 0);
     }
-    if clip_above(s, place, fields, record) {
+    if clip_above(file, place, fields, record) {
         return Answer::Refused(23, 0);
     }
-    if name_borne(s, fields, record) {
+    if name_taken(file, fields, record) {
         return Answer::Refused(24, 0);
     }
-    if no_room(s, room, place, fields, record) {
+    if no_room(file, room, place, fields, record) {
         return Answer::Refused(26, 0);
     }
     Answer::Accepted

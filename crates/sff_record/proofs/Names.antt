@@ -7,10 +7,10 @@ use native.Mathlib.Nat.{add-sub-cancel-left}
 use lib.ListN.{length}
 use Rattle.octets.specs.Parts.{part}
 use Rattle.answers.specs.declared.Answer.the-variants.{Accepted}
-use Rattle.sff_correction.specs.declared.Fields.{Fields}
-use Rattle.sff_correction.specs.Record.{oldName, newName, recordTest}
-use Rattle.sff_correction.specs.Fields.{FieldsOf}
-use Rattle.sff_correction.proofs.Asked.{fields-96, old-inside, new-inside}
+use Rattle.correction_format.specs.declared.Fields.{Fields}
+use Rattle.correction_format.specs.Record.{oldName, newName, recordTest}
+use Rattle.correction_format.specs.Fields.{FieldsOf}
+use Rattle.correction_format.proofs.Asked.{fields-96, old-inside, new-inside}
 
 -- bytes from p to p + n
 name-at : (p n m : ℕ) (r : List ℕ) → n ≡ m → part p (p + n - p) r ≡ part p m r

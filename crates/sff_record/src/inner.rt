@@ -3,12 +3,12 @@ ghost use mathlib.Core.Path.{_≡_};
 ghost use lib.ListN.{length};
 ghost use Rattle.octets.specs.Parts.{part};
 ghost use Rattle.answers.specs.declared.Answer.the-variants.{Accepted};
-ghost use Rattle.sff_correction.specs.Record.{position, oldName, newName, recordTest};
-ghost use Rattle.sff_correction.specs.Fields.{fieldsAt, FieldsOf};
+ghost use Rattle.correction_format.specs.Record.{position, oldName, newName, recordTest};
+ghost use Rattle.correction_format.specs.Fields.{fieldsAt, FieldsOf};
+use correction_format::Fields;
 use octets::inner::get16;
 use octets::inner::get32;
 use octets::wide;
-use sff_correction::Fields;
 
 // The fields of a record, with its own position.
 pub fn record_fields(record: &[u8]) -> Fields

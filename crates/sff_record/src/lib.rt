@@ -2,7 +2,7 @@
 ghost use mathlib.Core.Path.{_≡_};
 ghost use Prim.Native.Nat.{_+_, _≤_};
 ghost use lib.ListN.{length};
-ghost use Rattle.sff_correction.specs.Record.{nameFieldTest, unusedTest, newClipsTest, newNameTest, recordTest};
+ghost use Rattle.correction_format.specs.Record.{nameFieldTest, unusedTest, newClipsTest, newNameTest, recordTest};
 use answers::Answer;
 use octets::ByteTest;
 use octets::fails;

@@ -14,10 +14,10 @@ use Rattle.sff_format.specs.Parse.{parse}
 use Rattle.sff_format.specs.Places.{readAt}
 use Rattle.sff_format.specs.Position.{signalTest, viewOf}
 use Rattle.sff_format.proofs.Positions.{signal-position, signal-flows, flows-small, values-size, values-inside, values-chosen}
-use Rattle.sff_signal.specs.Signal.{none, summaryOf, fileSignal}
+use Rattle.sff_signal.specs.Signal.{zeroFloat, summaryOf, fileSignal}
 
 -- the literal 0.0
-literal : ofBits binary64 0 ≡ none
+literal : ofBits binary64 0 ≡ zeroFloat
 unfolding ofBits ofFields odd
 literal = refl
 

@@ -28,27 +28,27 @@ minOf (value ∷ []) = value
 minOf (value ∷ next ∷ values) = min value (minOf (next ∷ values))
 
 -- "each of one division": of two whole numbers, each of them exactly a float
-abbrev pub over : ℕ → ℕ → Float
-over numerator denominator = div binary64 (ofInt binary64 (pos numerator)) (ofInt binary64 (pos denominator))
+abbrev pub quotient : ℕ → ℕ → Float
+quotient numerator denominator = div binary64 (ofInt binary64 (pos numerator)) (ofInt binary64 (pos denominator))
 
 -- "Strongest and weakest are the largest and smallest stored value over 100.0; the mean is the exact sum of stored
 -- values over the exact 100F"
 unfoldable pub summaryOf : List ℕ → Summary
 summaryOf values = record {
-  strongest = over (maxOf values) 100;
-  weakest = over (minOf values) 100;
-  mean = over (sumOf values) (100 * length values);
+  strongest = quotient (maxOf values) 100;
+  weakest = quotient (minOf values) 100;
+  mean = quotient (sumOf values) (100 * length values);
 }
 
 -- 0.0
-abbrev pub none : Float
-none = fin false 0 (pos 0)
+abbrev pub zeroFloat : Float
+zeroFloat = fin false 0 (pos 0)
 
 -- "all three are then 0.0"
-abbrev pub zeros : Summary
-zeros = record { strongest = none; weakest = none; mean = none }
+abbrev pub zeroSummary : Summary
+zeroSummary = record { strongest = zeroFloat; weakest = zeroFloat; mean = zeroFloat }
 
 -- "Signal summary of a read with F ≥ 1 .. Refusals: the file's, 21, 32; all three are then 0.0"
 unfoldable pub fileSignal : List ℕ → ℕ → Summary
 fileSignal file position =
-    acceptedOr (signalTest file position) (summaryOf (readAt (parse file) position .values)) zeros
+    acceptedOr (signalTest file position) (summaryOf (readAt (parse file) position .values)) zeroSummary

@@ -4,7 +4,7 @@ ghost use mathlib.Core.Path.{_≡_};
 ghost use Prim.Native.Nat.{_+_, _*_, _≤_, _<_};
 ghost use lib.ListN.{length};
 ghost use Rattle.octets.specs.Numbers.{number, wordsAt};
-ghost use Rattle.sff_signal.specs.Signal.{sumOf, maxOf, minOf, over, summaryOf};
+ghost use Rattle.sff_signal.specs.Signal.{sumOf, maxOf, minOf, quotient, summaryOf};
 use crate::Summary;
 use octets::greatest32;
 use octets::inner::get16;
@@ -17,25 +17,25 @@ struct Totals {
     sum: u32,
 }
 
-fn value(s: &[u8], at: usize) -> u32
-    requires { ⌜ at + 2 ≤ length (now s) ⌝ }
-    ensures { λ r. ⌜ (r ≡ number 2 at (now (s .entry))) × (r < 65536) ⌝ }
+fn value(file: &[u8], at: usize) -> u32
+    requires { ⌜ at + 2 ≤ length (now file) ⌝ }
+    ensures { λ r. ⌜ (r ≡ number 2 at (now (file .entry))) × (r < 65536) ⌝ }
 {
-    get16(s, at) as u32
+    get16(file, at) as u32
 }
 
 // The largest, the smallest and the sum of the values at `at`.
-fn add_up(s: &[u8], at: usize, flows: usize) -> Totals
-    requires { ⌜ (1 ≤ flows) × (flows < 65536) × (at + 2 * flows ≤ length (now s)) ⌝ }
-    ensures { λ r. ⌜ (r .most ≡ maxOf (wordsAt flows at (now (s .entry)))) × (r .least ≡ minOf (wordsAt flows at (now (s .entry)))) × (r .sum ≡ sumOf (wordsAt flows at (now (s .entry)))) ⌝ }
+fn add_up(file: &[u8], at: usize, flows: usize) -> Totals
+    requires { ⌜ (1 ≤ flows) × (flows < 65536) × (at + 2 * flows ≤ length (now file)) ⌝ }
+    ensures { λ r. ⌜ (r .most ≡ maxOf (wordsAt flows at (now (file .entry)))) × (r .least ≡ minOf (wordsAt flows at (now (file .entry)))) × (r .sum ≡ sumOf (wordsAt flows at (now (file .entry)))) ⌝ }
 {
-    let first = value(s, at);
+    let first = value(file, at);
     let mut most = first;
     let mut least = first;
     let mut sum = first;
     let mut i = 1;
     while i < flows {
-        let x = value(s, at + 2 * i);
+        let x = value(file, at + 2 * i);
         most = greatest32(most, x);
         least = least32(least, x);
         sum += x;
@@ -45,17 +45,17 @@ fn add_up(s: &[u8], at: usize, flows: usize) -> Totals
 }
 
 fn ratio(n: u32, d: u32) -> f64
-    ensures { λ r. ⌜ r ≡ over n d ⌝ }
+    ensures { λ r. ⌜ r ≡ quotient n d ⌝ }
 {
     (n as f64) / (d as f64)
 }
 
 // The summary of the values at `at`, one for each flow.
-pub fn values_summary(s: &[u8], at: usize, flows: usize) -> Summary
-    requires { ⌜ (1 ≤ flows) × (flows < 65536) × (at + 2 * flows ≤ length (now s)) ⌝ }
-    ensures { λ r. ⌜ r ≡ summaryOf (wordsAt flows at (now (s .entry))) ⌝ }
+pub fn values_summary(file: &[u8], at: usize, flows: usize) -> Summary
+    requires { ⌜ (1 ≤ flows) × (flows < 65536) × (at + 2 * flows ≤ length (now file)) ⌝ }
+    ensures { λ r. ⌜ r ≡ summaryOf (wordsAt flows at (now (file .entry))) ⌝ }
 {
-    let totals = add_up(s, at, flows);
+    let totals = add_up(file, at, flows);
     Summary {
         strongest: ratio(totals.most, 100),
         weakest: ratio(totals.least, 100),

@@ -11,7 +11,7 @@ use lib.Dec.{leb}
 use lib.ListN.{length, drop, getD}
 use Rattle.answers.specs.declared.Answer.the-variants.{Accepted, Refused}
 use Rattle.answers.proofs.Chains.{stops, stops-last, reaches, reaches-last}
-use Rattle.sff_format.specs.Rules.{isFlow, isCall, walkRun, callRun}
+use Rattle.sff_format.specs.Rules.{isFlow, baseMatches, walkedCount, matchedCount}
 use Rattle.sff_format.specs.ReadTest.{basesTest}
 use Rattle.sff_format.proofs.Loops.{walk-end, walk-stop, walk-on, calls-end, calls-stop, calls-on}
 
@@ -30,13 +30,13 @@ pub record Walked (F f₀ k₀ : ℕ) (xs : List ℕ) (k f : ℕ) : Type 0 where
   pub low : 1 ≤ k
   pub high : k ≤ length xs + 1
   pub reached : f ≤ F
-  pub is : k₀ - 1 + walkRun F f₀ (drop (k₀ - 1) xs) ≡ k - 1 + walkRun F f (drop (k - 1) xs)
+  pub is : k₀ - 1 + walkedCount F f₀ (drop (k₀ - 1) xs) ≡ k - 1 + walkedCount F f (drop (k - 1) xs)
 
 pub walked-start : (F f k : ℕ) (xs : List ℕ) → 1 ≤ k → k ≤ length xs + 1 → f ≤ F → Walked F f k xs k f
 walked-start F f k xs l g r = record { low = l; high = g; reached = r; is = refl }
 
 module _ {F f₀ k₀ : ℕ} {xs : List ℕ} {k f : ℕ} (w : Walked F f₀ k₀ xs k f) where
-  pub walked-end : length xs < k → length xs ≡ k₀ - 1 + walkRun F f₀ (drop (k₀ - 1) xs)
+  pub walked-end : length xs < k → length xs ≡ k₀ - 1 + walkedCount F f₀ (drop (k₀ - 1) xs)
   walked-end h = let e = walk-end F f (k - 1) xs (omega arith) in omega (arith, w .high, w .is, e)
 
   -- t is what the test of x gave
@@ -44,33 +44,33 @@ module _ {F f₀ k₀ : ℕ} {xs : List ℕ} {k f : ℕ} (w : Walked F f₀ k₀
     inside : k - 1 < length xs
     inside = omega (arith, w .low)
 
-    pub walked-stop : not t ≡ true → k - 1 ≡ k₀ - 1 + walkRun F f₀ (drop (k₀ - 1) xs)
+    pub walked-stop : not t ≡ true → k - 1 ≡ k₀ - 1 + walkedCount F f₀ (drop (k₀ - 1) xs)
     walked-stop g = let s = walk-stop F f (k - 1) x xs e inside (sym i ∙ not-true t g) in omega (arith, w .is, s)
 
     pub walked-more : not t ≡ false → {k′ : ℕ} → k′ ≡ k + 1 → Walked F f₀ k₀ xs k′ x
     walked-more g {k′} m =
         let d : isFlow F x ≡ true = sym i ∙ not-false t g in
         let q : suc (k - 1) ≡ k′ - 1 = omega (arith, w .low) in
-        let s : walkRun F f (drop (k - 1) xs) ≡ suc (walkRun F x (drop (k′ - 1) xs)) = rw q at (walk-on F f (k - 1) x xs e inside d) in
+        let s : walkedCount F f (drop (k - 1) xs) ≡ suc (walkedCount F x (drop (k′ - 1) xs)) = rw q at (walk-on F f (k - 1) x xs e inside d) in
         record { low = omega arith; high = omega arith; reached = flow-in F x d .1; is = omega (arith, w .is, s, w .low) }
 
 -- The invariant of the pass over the increments xs and the bases ys: what both tests seek they seek from k on.
 pub record Matched (characters xs ys : List ℕ) (k f : ℕ) : Type 0 where
   pub counts : length xs ≡ length ys
   pub walked : Walked (length characters) 0 1 xs k f
-  pub calls-is : callRun characters 0 xs ys ≡ k - 1 + callRun characters f (drop (k - 1) xs) (drop (k - 1) ys)
+  pub calls-is : matchedCount characters 0 xs ys ≡ k - 1 + matchedCount characters f (drop (k - 1) xs) (drop (k - 1) ys)
 
 pub matched-start : (characters xs ys : List ℕ) → length xs ≡ length ys → Matched characters xs ys 1 0
 matched-start characters xs ys h =
     record { counts = h; walked = walked-start (length characters) 0 1 xs (omega arith) (omega arith) (omega arith); calls-is = omega arith }
 
--- Where the pass has stopped: `callRun` defines the place, and x is the flow position of the base there, if there is
--- one.
+-- Where the pass has stopped: `matchedCount` defines the place, and x is the flow position of the base there, if there
+-- is one.
 pub record Stopped (characters xs ys : List ℕ) (k f x stop : ℕ) : Type 0 where
   pub counts : length xs ≡ length ys
   pub walked : Walked (length characters) 0 1 xs k f
   pub place : stop ≡ k - 1
-  pub is : stop ≡ callRun characters 0 xs ys
+  pub is : stop ≡ matchedCount characters 0 xs ys
   pub flow : k ≤ length xs → x ≡ f + getD xs (k - 1) 0
 
 module _ {characters xs ys : List ℕ} {k f : ℕ} (w : Matched characters xs ys k f) {x : ℕ} where
@@ -78,7 +78,7 @@ module _ {characters xs ys : List ℕ} {k f : ℕ} (w : Matched characters xs ys
       {stop : ℕ} →
       stop ≡ k - 1 →
       (k ≤ length xs → x ≡ f + getD xs (k - 1) 0) →
-      callRun characters f (drop (k - 1) xs) (drop (k - 1) ys) ≡ 0 →
+      matchedCount characters f (drop (k - 1) xs) (drop (k - 1) ys) ≡ 0 →
       Stopped characters xs ys k f x stop
   stopped-here s e z = record { counts = w .counts; walked = w .walked; place = s; is = omega (arith, w .calls-is, z); flow = e }
 
@@ -93,16 +93,16 @@ module _ {characters xs ys : List ℕ} {k f : ℕ} (w : Matched characters xs ys
     base-in = omega (arith, w .walked .low)
 
     calls-none :
-        (isFlow (length characters) x && isCall characters x (getD ys (k - 1) 0)) ≡ false →
-        callRun characters f (drop (k - 1) xs) (drop (k - 1) ys) ≡ 0
+        (isFlow (length characters) x && baseMatches characters x (getD ys (k - 1) 0)) ≡ false →
+        matchedCount characters f (drop (k - 1) xs) (drop (k - 1) ys) ≡ 0
     calls-none = calls-stop (length characters) f (k - 1) x xs e base-in characters ys (omega (arith, base-in, w .counts))
 
     pub stopped-walk : not t ≡ true → {stop : ℕ} → stop ≡ k - 1 → Stopped characters xs ys k f x stop
     stopped-walk g s = stopped-here s (λ l. e) (calls-none (rw (sym i ∙ not-true t g)))
 
     -- u is what the test of the base gave
-    module _ (g : not t ≡ false) {u : Bool} (j : u ≡ isCall characters x (getD ys (k - 1) 0)) where
-      both : {v : Bool} → u ≡ v → (isFlow (length characters) x && isCall characters x (getD ys (k - 1) 0)) ≡ v
+    module _ (g : not t ≡ false) {u : Bool} (j : u ≡ baseMatches characters x (getD ys (k - 1) 0)) where
+      both : {v : Bool} → u ≡ v → (isFlow (length characters) x && baseMatches characters x (getD ys (k - 1) 0)) ≡ v
       both d = rw (sym i ∙ not-false t g) (sym j ∙ d)
 
       pub stopped-base : not u ≡ true → {stop : ℕ} → stop ≡ k - 1 → Stopped characters xs ys k f x stop
@@ -111,20 +111,20 @@ module _ {characters xs ys : List ℕ} {k f : ℕ} (w : Matched characters xs ys
       pub matched-more : not u ≡ false → {k′ : ℕ} → k′ ≡ k + 1 → Matched characters xs ys k′ x
       matched-more a {k′} m =
           let q : suc (k - 1) ≡ k′ - 1 = omega (arith, w .walked .low) in
-          let z : callRun characters f (drop (k - 1) xs) (drop (k - 1) ys) ≡ suc (callRun characters x (drop (k′ - 1) xs) (drop (k′ - 1) ys)) =
+          let z : matchedCount characters f (drop (k - 1) xs) (drop (k - 1) ys) ≡ suc (matchedCount characters x (drop (k′ - 1) xs) (drop (k′ - 1) ys)) =
           rw q at (calls-on (length characters) f (k - 1) x xs e base-in characters ys (omega (arith, base-in, w .counts)) (both (not-false u a))) in
           record { counts = w .counts; walked = walked-more (w .walked) h e i g m; calls-is = omega (arith, w .calls-is, z, w .walked .low) }
 
 -- What the place means.
 module _ {characters xs ys : List ℕ} {k f x stop : ℕ} (w : Stopped characters xs ys k f x stop) where
-  whole : {walk : ℕ} → walk ≡ 1 - 1 + walkRun (length characters) 0 (drop (1 - 1) xs) → walkRun (length characters) 0 xs ≡ walk
+  whole : {walk : ℕ} → walk ≡ 1 - 1 + walkedCount (length characters) 0 (drop (1 - 1) xs) → walkedCount (length characters) 0 xs ≡ walk
   whole e = omega (arith, e)
 
   pub answer-end : stop ≡ length xs → Accepted ≡ basesTest characters xs ys
   unfolding basesTest
   answer-end h =
       let n : length xs < k = omega (arith, w .place, w .walked .low) in
-      let c : length xs + length ys ≡ length xs + callRun characters 0 xs ys = omega (arith, w .is, w .counts) in
+      let c : length xs + length ys ≡ length xs + matchedCount characters 0 xs ys = omega (arith, w .is, w .counts) in
       reaches _ _ _ (sym (whole (walked-end (w .walked) n))) _ (omega arith) (reaches-last _ _ _ c (omega arith))
 
   module _ (h : stop ≡ length xs → ⊥) where
@@ -146,8 +146,8 @@ module _ {characters xs ys : List ℕ} {k f x stop : ℕ} (w : Stopped character
     module _
         {k′ walk : ℕ}
         (v : Walked (length characters) 0 1 xs k′ x)
-        (e : walk ≡ k′ - 1 + walkRun (length characters) x (drop (k′ - 1) xs)) where
-      walk-is : walk ≡ walkRun (length characters) 0 xs
+        (e : walk ≡ k′ - 1 + walkedCount (length characters) x (drop (k′ - 1) xs)) where
+      walk-is : walk ≡ walkedCount (length characters) 0 xs
       walk-is = sym (whole (e ∙ sym (v .is)))
 
       pub answer-walk : walk < length xs → Refused 10 walk ≡ basesTest characters xs ys

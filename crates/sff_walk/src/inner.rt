@@ -3,7 +3,7 @@
 ghost use mathlib.Core.Path.{_≡_};
 ghost use Prim.Native.Nat.{_+_, _-_, _≤_, _<_};
 ghost use lib.ListN.{length, drop};
-ghost use Rattle.sff_format.specs.Rules.{isCall, walkRun};
+ghost use Rattle.sff_format.specs.Rules.{baseMatches, walkedCount};
 ghost use Rattle.sff_format.specs.ReadTest.{basesTest};
 use crate::BasePosition;
 use crate::FlowPosition;
@@ -18,7 +18,7 @@ fn walk_stop(
     flows: usize,
 ) -> usize
     requires { ⌜ (length (now increments) < 4294967296) × (flows < 65536) × (1 ≤ base .0) × (base .0 ≤ length (now increments) + 1) × (flow .0 ≤ flows) ⌝ }
-    ensures { λ r. ⌜ r ≡ base .0 - 1 + walkRun flows (flow .0) (drop (base .0 - 1) (now (increments .entry))) ⌝ }
+    ensures { λ r. ⌜ r ≡ base .0 - 1 + walkedCount flows (flow .0) (drop (base .0 - 1) (now (increments .entry))) ⌝ }
 {
     let bases = increments.len();
     loop {
@@ -36,9 +36,9 @@ fn walk_stop(
 }
 
 // Whether a base may stand at a flow position.
-fn is_call(characters: &[u8], flow: FlowPosition, base: u8) -> bool
+fn base_matches(characters: &[u8], flow: FlowPosition, base: u8) -> bool
     requires { ⌜ (1 ≤ flow .0) × (flow .0 ≤ length (now characters)) ⌝ }
-    ensures { λ r. ⌜ r ≡ isCall (now (characters .entry)) (flow .0) base ⌝ }
+    ensures { λ r. ⌜ r ≡ baseMatches (now (characters .entry)) (flow .0) base ⌝ }
 {
     (base == characters[flow.0 - 1]) | (base == b'N')
 }
@@ -63,7 +63,7 @@ pub fn bases_test(characters: &[u8], increments: &[u8], bases: &[u8]) -> Answer
         if !flow.within(flows) {
             break k - 1;
         }
-        if !is_call(characters, flow, bases[k - 1]) {
+        if !base_matches(characters, flow, bases[k - 1]) {
             break k - 1;
         }
         base = base.next();

@@ -15,7 +15,7 @@ use Rattle.octets.proofs.AllBytes.{bytes-take}
 use Rattle.octets.proofs.Stands.{number-small}
 use Rattle.answers.specs.declared.Answer.{Answer}
 use Rattle.answers.specs.declared.Answer.the-variants.{Accepted, Refused}
-use Rattle.answers.specs.Answer.{when, own, _then_, acceptedOr}
+use Rattle.answers.specs.Answer.{when, zeroPlace, _then_, acceptedOr}
 use Rattle.sff_format.specs.Model.{Read, layoutRead, layout}
 use Rattle.sff_format.specs.Rules.{declared}
 use Rattle.sff_format.specs.HeaderTest.{readCount, flows, flowCharacters}
@@ -29,12 +29,12 @@ use Rattle.sff_format.proofs.Appends.{Carried, carried}
 use Rattle.sff_header.specs.declared.Header.{Header}
 use Rattle.sff_header.specs.Header.{headerOf}
 use Rattle.sff_header.proofs.Fields.{offset-of, index-length-of, reads-of, flows-of}
-use Rattle.sff.proofs.Sections.{characters-fit}
+use Rattle.sff_file.proofs.Sections.{characters-fit}
 use Rattle.sff_sections.proofs.Sections.{length-read, length-new}
 
 -- a refusal of the writer's own input, by what the test of it gave
-pub own-told : (b : Answer) {a x : Answer} → x ≡ own a → a ≡ b → x ≡ own b
-own-told b e f = rw (← f) e
+pub zero-place-told : (b : Answer) {a x : Answer} → x ≡ zeroPlace a → a ≡ b → x ≡ zeroPlace b
+zero-place-told b e f = rw (← f) e
 
 -- one of two conditions that calls gave
 pub either-told : (s t : Bool) {u v w : Bool} → u ≡ s → v ≡ t → (u || v) ≡ w → (s || t) ≡ w

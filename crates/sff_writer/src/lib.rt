@@ -3,7 +3,7 @@
 ghost use mathlib.Core.Path.{_≡_};
 ghost use Prim.Native.Nat.{_<_};
 ghost use lib.ListN.{length};
-ghost use Rattle.answers.specs.Answer.{own};
+ghost use Rattle.answers.specs.Answer.{zeroPlace};
 ghost use Rattle.sff_format.specs.ReadTest.{clipTest};
 ghost use Rattle.sff_format.specs.Writing.{newTest, newOutcome, newBuffer, readOf, badCounts, givenTest, openTest, appendTest, AppendLeaves};
 use answers::Answer;
@@ -11,8 +11,8 @@ use buffers::inner::put32;
 use octets::ByteTest;
 use octets::fails;
 use octets::inner::get32;
-use sff::file_test;
 use sff_clips::inner::clip_test;
+use sff_file::file_test;
 use sff_format::Clips;
 use sff_format::Outcome;
 use sff_header::inner::header_fields;
@@ -25,8 +25,8 @@ use sff_walk::BasePosition;
 use sff_walk::inner::bases_test;
 
 // A refusal of the writer's own input, at place 0.
-fn own(answer: Answer) -> Answer
-    ensures { λ r. ⌜ r ≡ own answer ⌝ }
+fn zero_place(answer: Answer) -> Answer
+    ensures { λ r. ⌜ r ≡ zeroPlace answer ⌝ }
 {
     match answer {
         Answer::Accepted => Answer::Accepted,
@@ -52,9 +52,9 @@ fn bad_counts(
 // The clips: one above its limit (9), at place 0 as they are the caller's.
 fn clips_test(clips: Clips, bases: usize) -> Answer
     requires { ⌜ bases < 4294967296 ⌝ }
-    ensures { λ r. ⌜ r ≡ own (clipTest 0 bases (clips .«quality_left») (clips .«quality_right») (clips .«adapter_left») (clips .«adapter_right»)) ⌝ }
+    ensures { λ r. ⌜ r ≡ zeroPlace (clipTest 0 bases (clips .«quality_left») (clips .«quality_right») (clips .«adapter_left») (clips .«adapter_right»)) ⌝ }
 {
-    own(clip_test(
+    zero_place(clip_test(
         0,
         bases,
         BasePosition(clips.quality_left as usize),
@@ -91,7 +91,7 @@ fn given_test(
     let Answer::Accepted = clipped else {
         return clipped;
     };
-    own(bases_test(characters, increments, bases))
+    zero_place(bases_test(characters, increments, bases))
 }
 
 // A new file's reasons to refuse: too many characters (5), a character (6), no room (26).

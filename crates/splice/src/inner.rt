@@ -11,9 +11,9 @@ use buffers::inner::move_up;
 
 // Moves what stands after the n bytes at `at`, up to `end`, so that `size` bytes fit there, and zeroes what is freed.
 // A tail that stays where it is is not moved at all: each of its bytes would be written onto itself.
-fn resize(s: &mut [u8], at: usize, n: usize, end: usize, size: usize)
-    requires { ⌜ (at + n ≤ end) × (end ≤ length (now s)) × (end + size ≤ length (now s) + n) ⌝ }
-    ensures { λ _. ⌜ now (s .exit) ≡ putAt (at + size) (part (at + n) (end - (at + n)) (now (s .entry)) ++ replicate (n - size) 0) (now (s .entry)) ⌝ }
+fn resize(buffer: &mut [u8], at: usize, n: usize, end: usize, size: usize)
+    requires { ⌜ (at + n ≤ end) × (end ≤ length (now buffer)) × (end + size ≤ length (now buffer) + n) ⌝ }
+    ensures { λ _. ⌜ now (buffer .exit) ≡ putAt (at + size) (part (at + n) (end - (at + n)) (now (buffer .entry)) ++ replicate (n - size) 0) (now (buffer .entry)) ⌝ }
 {
     if n == size {
         return;
@@ -22,17 +22,17 @@ fn resize(s: &mut [u8], at: usize, n: usize, end: usize, size: usize)
     let to = at + size;
     let count = end - from;
     if n < size {
-        move_up(s, from, to, count);
+        move_up(buffer, from, to, count);
         return;
     }
-    move_down(s, from, to, count);
+    move_down(buffer, from, to, count);
     let freed = to + count;
-    fill(s, freed, end, 0);
+    fill(buffer, freed, end, 0);
 }
 
 // Puts the `size` bytes of `source` from `from` on in the place of the n bytes at `at`, in a file that ends at `end`.
 pub fn splice(
-    s: &mut [u8],
+    buffer: &mut [u8],
     at: usize,
     n: usize,
     end: usize,
@@ -40,17 +40,17 @@ pub fn splice(
     from: usize,
     size: usize,
 )
-    requires { ⌜ (at + n ≤ end) × (end ≤ length (now s)) × (end + size ≤ length (now s) + n) × (from + size ≤ length (now source)) ⌝ }
-    ensures { λ _. ⌜ now (s .exit) ≡ spliced at n end (part from size (now (source .entry))) (now (s .entry)) ⌝ }
+    requires { ⌜ (at + n ≤ end) × (end ≤ length (now buffer)) × (end + size ≤ length (now buffer) + n) × (from + size ≤ length (now source)) ⌝ }
+    ensures { λ _. ⌜ now (buffer .exit) ≡ spliced at n end (part from size (now (source .entry))) (now (buffer .entry)) ⌝ }
 {
-    resize(s, at, n, end, size);
-    copy(s, at, source, from, size);
+    resize(buffer, at, n, end, size);
+    copy(buffer, at, source, from, size);
 }
 
 // Takes the n bytes at `at` out of a file that ends at `end`.
-pub fn cut(s: &mut [u8], at: usize, n: usize, end: usize)
-    requires { ⌜ (at + n ≤ end) × (end ≤ length (now s)) ⌝ }
-    ensures { λ _. ⌜ now (s .exit) ≡ spliced at n end [] (now (s .entry)) ⌝ }
+pub fn cut(buffer: &mut [u8], at: usize, n: usize, end: usize)
+    requires { ⌜ (at + n ≤ end) × (end ≤ length (now buffer)) ⌝ }
+    ensures { λ _. ⌜ now (buffer .exit) ≡ spliced at n end [] (now (buffer .entry)) ⌝ }
 {
-    resize(s, at, n, end, 0);
+    resize(buffer, at, n, end, 0);
 }

@@ -43,16 +43,16 @@ module _ {at : ℕ} {whole l₀ : List ℕ} {p : ℕ} {rest l : List ℕ} (k : C
       (omega (arith, f), sym (put-nil p l) ∙ sym (ap (λ (z : List ℕ). putAt p z l) e) ∙ k .is)
 
 -- of the room for the text `whole`, what all but `rest` of it leaves is `left`
-pub record Left (room : ℕ) (whole : List ℕ) (left : ℕ) (rest : List ℕ) : Type 0 where
+pub record RoomLeft (room : ℕ) (whole : List ℕ) (left : ℕ) (rest : List ℕ) : Type 0 where
   pub is : left - length rest ≡ room - length whole
 
-pub left-start : (room : ℕ) (whole : List ℕ) → Left room whole room whole
-left-start room whole = record { is = refl }
+pub room-left-start : (room : ℕ) (whole : List ℕ) → RoomLeft room whole room whole
+room-left-start room whole = record { is = refl }
 
 module _ {room : ℕ} {whole : List ℕ} {left : ℕ} where
   -- xs is the next piece
-  pub left-more : (xs rest : List ℕ) → Left room whole left (xs ++ rest) → {left′ : ℕ} → left′ ≡ left - length xs → Left room whole left′ rest
-  left-more xs rest k e = let f = length-append xs rest in record { is = omega (arith, k .is, e, f) }
+  pub room-left-more : (xs rest : List ℕ) → RoomLeft room whole left (xs ++ rest) → {left′ : ℕ} → left′ ≡ left - length xs → RoomLeft room whole left′ rest
+  room-left-more xs rest k e = let f = length-append xs rest in record { is = omega (arith, k .is, e, f) }
 
-  pub left-done : Left room whole left [] → left ≡ room - length whole
-  left-done k = omega (arith, k .is)
+  pub room-left-done : RoomLeft room whole left [] → left ≡ room - length whole
+  room-left-done k = omega (arith, k .is)

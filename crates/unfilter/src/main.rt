@@ -5,8 +5,8 @@ use printing::print_text;
 fn main() {
     let mut input = [0u8; 65537];
     let n = io::read_full(STDIN_FILENO, &mut input);
-    let mut first = unfiltering::print_room();
-    let mut second = unfiltering::print_room();
-    let written = unfiltering::print(&input[..n], &mut first, &mut second);
+    let mut first = unfilter_text::print_room();
+    let mut second = unfilter_text::print_room();
+    let written = unfilter_text::print(&input[..n], &mut first, &mut second);
     print_text(written, &first);
 }

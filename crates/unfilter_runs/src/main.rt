@@ -13,9 +13,9 @@ fn print_block(i: usize) {
     let mut input = [0u8; 65537];
     let m = io::read_full(fd, &mut input);
     libc::close(fd);
-    let mut first = unfiltering::print_room();
-    let mut second = unfiltering::print_room();
-    let written = unfiltering::print(&input[..m], &mut first, &mut second);
+    let mut first = unfilter_text::print_room();
+    let mut second = unfilter_text::print_room();
+    let written = unfilter_text::print(&input[..m], &mut first, &mut second);
     io::write_all(STDOUT_FILENO, &path[..n]);
     io::write_all(STDOUT_FILENO, b":\n");
     print_text(written, &first);

@@ -3,7 +3,7 @@
 use mathlib.Core.Path.{_≡_, sym, _∙_}
 use lib.Seq.{length-take-le}
 use Rattle.answers.specs.declared.Answer.the-variants.{Accepted}
-use Rattle.sff_correction.specs.Record.{recordTest}
+use Rattle.correction_format.specs.Record.{recordTest}
 use Rattle.sff_corrector.proofs.Turns.{stopped, stop-14, stop-20, stop-file}
 use borrow.Author.Needs.{needs}
 use Rattle.sff_corrector.proofs.carry_first.Statement.{statement}

@@ -8,10 +8,10 @@ use lib.Seq.{length-take-le}
 use Rattle.octets.proofs.AllBytes.{bytes-of}
 use Rattle.answers.specs.declared.Answer.the-variants.{Accepted}
 use Rattle.sff_format.specs.HeaderTest.{readCount}
-use Rattle.sff_correction.specs.declared.Fields.{Fields}
-use Rattle.sff_correction.specs.Correct.{correctTest}
-use Rattle.sff_correction.proofs.Records.{record-96}
-use Rattle.sff_correction.proofs.Asked.{own-fields, own-asked}
+use Rattle.correction_format.specs.declared.Fields.{Fields}
+use Rattle.correction_format.specs.Correct.{correctTest}
+use Rattle.correction_format.proofs.Records.{record-96}
+use Rattle.correction_format.proofs.Asked.{fields-of-record, asked-of-record}
 use Rattle.sff_reasons.proofs.Told.{below-count}
 use Rattle.sff_corrector.proofs.Turns.{stopped, stop-21, reasons-are, done, ready}
 use borrow.Author.Needs.{needs}
@@ -87,7 +87,7 @@ reason-requires c κs =
     let f = c .before in
     let d = at-21 (at-found f) in
     let s = at-fields d in
-    let fields = own-fields _ _ (d .record-fields .ensures) in
+    let fields = fields-of-record _ _ (d .record-fields .ensures) in
     let found = below (at-found f) in
     (s .pre .0 .accepted, (s .pre .1, (fields, (found, (f .find-from .ensures, omega (arith, size s, s .pre .0 .inside))))))
 
@@ -100,7 +100,7 @@ apply-requires c κs =
     let f = at-asked j in
     let d = at-21 (at-found f) in
     let e = at-fields d .pre in
-    let fields = own-fields _ _ (d .record-fields .ensures) in
+    let fields = fields-of-record _ _ (d .record-fields .ensures) in
     let none = sym (j .reason .ensures) ∙ c .before .enum-told .given .1 in
     (e .0 .inside, (e .0 .accepted, (e .1, (fields, (f .find-from .ensures, none)))))
 
@@ -112,8 +112,8 @@ returns-3 c =
     let a = at-fields d .args in
     let o = d .record-fields .ensures in
     let p = c .before .before .apply .ensures in
-    let n = rw (own-asked _ _ o) at (p .0) in
-    let b = rw (own-asked _ _ o) at (p .1) in
+    let n = rw (asked-of-record _ _ o) at (p .0) in
+    let b = rw (asked-of-record _ _ o) at (p .1) in
     let t = done (a .buffer .now) (a .len) (a .«record» .now) (no-reason j) n b in
     let y = bytes-of (a .buffer .now) (λ i. d .before .before .slice-known .given i .fits) in
     let z = bytes-of (a .«record» .now) (λ i. d .before .shared-slice-known .given i .fits) in

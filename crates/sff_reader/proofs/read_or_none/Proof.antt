@@ -1,6 +1,6 @@
 -- With a read left it is tested; with none the end is, and where that is accepted the answer is 33.
 use Rattle.answers.proofs.Chains.{refuses, accepts}
-use Rattle.sff.proofs.Sections.{fields-fit}
+use Rattle.sff_file.proofs.Sections.{fields-fit}
 use borrow.Author.Needs.{needs}
 use Rattle.sff_reader.proofs.Reading.{read-left, none-left}
 use Rattle.sff_reader.proofs.read_or_none.Statement.{statement}

@@ -1,6 +1,6 @@
 -- Kind 1 may have any clips; in the others their eight bytes are zero.
 use borrow.Author.Tests.{eq-eqb, ne-eqb}
-use Rattle.sff_correction.specs.Record.{newClipsTest}
+use Rattle.correction_format.specs.Record.{newClipsTest}
 use Rattle.sff_record.proofs.Reasons.{used, unused}
 use borrow.Author.Needs.{needs}
 use Rattle.sff_record.proofs.new_clips_test.Statement.{statement}

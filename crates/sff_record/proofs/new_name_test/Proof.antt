@@ -1,7 +1,7 @@
 -- In kind 2 the name is tested, by the length that was read; in the others its length and its field are zero.
 use borrow.Author.Tests.{eq-eqb, ne-eqb}
 use Rattle.answers.proofs.Chains.{refuses, accepts}
-use Rattle.sff_correction.specs.Record.{newNameTest}
+use Rattle.correction_format.specs.Record.{newNameTest}
 use Rattle.sff_record.proofs.Reasons.{used, unused, name-tested}
 use borrow.Author.Needs.{needs}
 use Rattle.sff_record.proofs.new_name_test.Statement.{statement}

@@ -1,7 +1,7 @@
 -- The tests stand in the definition's order: at each `return` those before it have passed and this one decides. The
 -- old name's length is the byte that was read.
 use Rattle.answers.proofs.Chains.{refusal, onward}
-use Rattle.sff_correction.specs.Record.{recordTest}
+use Rattle.correction_format.specs.Record.{recordTest}
 use Rattle.sff_record.proofs.Reasons.{name-refuses, name-accepts}
 use borrow.Author.Needs.{needs}
 use Rattle.sff_record.proofs.record_test.Statement.{statement}

@@ -7,7 +7,7 @@ use Rattle.sff_view.proofs.insert.Tie as tie
 
 returns : tie.Need-returns
 unfolding insertIn
-returns c = c .bytes-in .ensures ∙ rw (c .before .insert-stretch .ensures, c .before .before .bases .ensures)
+returns c = c .bytes-in .ensures ∙ rw (c .before .insert-span .ensures, c .before .before .bases .ensures)
 
 pub insert-spec : {M : Type 1} → statement M
 insert-spec = tie.close (tie.spec (λ c κs. search needs) (λ c κs. search needs) (λ c κs. search needs) returns)

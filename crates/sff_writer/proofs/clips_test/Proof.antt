@@ -1,4 +1,4 @@
--- `clip_test` gives the test of the four clips, and `own` gives what the writer says of it.
+-- `clip_test` gives the test of the four clips, and `zero_place` gives what the writer says of it.
 use borrow.Author.Needs.{needs}
 use Rattle.sff_writer.proofs.clips_test.Statement.{statement}
 use Rattle.sff_writer.proofs.clips_test.Tie as tie

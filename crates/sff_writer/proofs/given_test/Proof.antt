@@ -6,7 +6,7 @@ use lib.ListN.{length}
 use Rattle.answers.proofs.Chains.{refusal, onward}
 use Rattle.sff_format.specs.Writing.{givenTest}
 use Rattle.sff_format.proofs.Given.{counts-ok}
-use Rattle.sff_writer.proofs.Reasons.{own-told}
+use Rattle.sff_writer.proofs.Reasons.{zero-place-told}
 use borrow.Author.Needs.{needs}
 use Rattle.sff_writer.proofs.given_test.Statement.{statement}
 use Rattle.sff_writer.proofs.given_test.Tie as tie
@@ -47,7 +47,7 @@ bases-test-requires c κs = let k = counted (at-counts (c .before .before .befor
 
 returns-5 : tie.Need-returns-5
 unfolding givenTest
-returns-5 c = search (onward, own-told) depth 9
+returns-5 c = search (onward, zero-place-told) depth 9
 
 pub given-test-spec : {M : Type 1} → statement M
 given-test-spec =

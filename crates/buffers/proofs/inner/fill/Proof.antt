@@ -20,7 +20,7 @@ loop-again : tie.Need-loop-again Inv-loop μ-loop
 loop-again c =
     let l = c .before in
     let a = l .before .args in
-    up-more (l .loop .inv) (omega arith) _ (same-value (a .to - a .from) (l .loop .j) (a .v) (omega arith))
+    up-more (l .loop .inv) (omega arith) _ (same-value (a .to - a .from) (l .loop .j) (a .value) (omega arith))
 
 returns : tie.Need-returns Inv-loop μ-loop
 returns c = search moves

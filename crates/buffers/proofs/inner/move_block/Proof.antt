@@ -12,7 +12,7 @@ returns c =
     let out = c .before .before in
     let in-array = out .before .before .before .before in
     let a = in-array .before .before .before .before .args in
-    moved-through (a .from) (a .to) 16384 (replicate 16384 0) (a .s .now) (length-replicate {A = ℕ} 16384 0) (omega arith)
+    moved-through (a .from) (a .to) 16384 (replicate 16384 0) (a .buffer .now) (length-replicate {A = ℕ} 16384 0) (omega arith)
     (in-array .copy .ensures) (out .copy2 .ensures)
 
 pub move-block-spec : {M : Type 1} → statement M

@@ -16,8 +16,8 @@ abbrev μ-loop : tie.MeasureT-loop
 loop-holds : tie.Need-loop-holds Inv-loop μ-loop
 loop-holds c = search wording
 
-slice-write-s-2 : tie.Need-slice-write-s-2 Inv-loop μ-loop
-slice-write-s-2 c = simp length-set (omega arith)
+slice-write-buffer-2 : tie.Need-slice-write-buffer-2 Inv-loop μ-loop
+slice-write-buffer-2 c = simp length-set (omega arith)
 
 loop-again : tie.Need-loop-again Inv-loop μ-loop
 loop-again c = search wording
@@ -40,7 +40,7 @@ put-words-spec =
     (λ c. search needs)
     (λ c. search needs)
     (λ c. search needs)
-    slice-write-s-2
+    slice-write-buffer-2
     (λ c. search needs)
     (λ c. search needs)
     loop-again

@@ -8,14 +8,14 @@ use Rattle.filter_block.proofs.inner.bad_delta_header.Statement.{statem
 use Rattle.filter_block.proofs.inner.bad_delta_header.Tie as tie
 
 shared-slice-read-wide : tie.Need-shared-slice-read-wide
-shared-slice-read-wide c = let s = c .before .before .before in level-in (s .args .w) (s .args .block .now) (s .pre)
+shared-slice-read-wide c = let s = c .before .before .before in level-in (s .args .width) (s .args .block .now) (s .pre)
 
 first-not-requires : tie.Need-first-not-requires
 first-not-requires c κs =
     let header = c .before .before .before in
     let s = header .before .before in
     let h = header .header-length .ensures .0 in
-    (delta-start (s .args .w) _ h, omega (arith, h, s .pre))
+    (delta-start (s .args .width) _ h, omega (arith, h, s .pre))
 
 returns : tie.Need-returns
 unfolding badHeader

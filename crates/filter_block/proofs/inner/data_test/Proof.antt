@@ -6,7 +6,7 @@ use borrow.Author.Needs.{needs}
 use lib.ListN.{length}
 use Rattle.answers.specs.declared.Answer.{Answer}
 use Rattle.filter_format.specs.declared.Filter.{Filter}
-use Rattle.filter_format.specs.Block.{Known, headerLength}
+use Rattle.filter_format.specs.Block.{HasUnitWidth, headerLength}
 use Rattle.filter_block.specs.Tests.{dataTest}
 use Rattle.filter_block.proofs.Headers.{told}
 use Rattle.filter_block.proofs.Tests.{raw-data, follow-data, other-data}
@@ -18,9 +18,9 @@ abbrev start : tie.After-shared-slice-known → tie.Start
 start m = m .before
 
 -- of the case g that the filter is: what the start knows, and what is to be answered
-known : (m : tie.After-shared-slice-known) {g : Filter} → start m .args .filter ≡ g
-    → (Known g) × (headerLength g ≤ length (start m .args .block .now))
-known m e = let s = start m in told (s .args .filter) _ (s .args .block .now) e (s .pre)
+has-unit-width : (m : tie.After-shared-slice-known) {g : Filter} → start m .args .filter ≡ g
+    → (HasUnitWidth g) × (headerLength g ≤ length (start m .args .block .now))
+has-unit-width m e = let s = start m in told (s .args .filter) _ (s .args .block .now) e (s .pre)
 
 tested : (m : tie.After-shared-slice-known) {g : Filter} {r : Answer} → start m .args .filter ≡ g
     → r ≡ dataTest g (start m .args .room) (start m .args .block .now)
@@ -29,21 +29,21 @@ tested m e h = let a = start m .args in h ∙ ap (λ (f : Filter). dataTest f (a
 
 sub-room-test : tie.Need-sub-room-test
 unfolding headerLength
-sub-room-test c = omega (arith, known (c .before .before) (c .enum-told .given .1) .1)
+sub-room-test c = omega (arith, has-unit-width (c .before .before) (c .enum-told .given .1) .1)
 
 delta-test-requires : tie.Need-delta-test-requires
-delta-test-requires c κs = let the-case = c .before in known (the-case .before .before) (the-case .filter .given .1)
+delta-test-requires c κs = let the-case = c .before in has-unit-width (the-case .before .before) (the-case .filter .given .1)
 
 narrow-test-requires : tie.Need-narrow-test-requires
 unfolding headerLength
 narrow-test-requires c κs =
     let the-case = c .before in
-    let facts = known (the-case .before .before) (the-case .filter2 .given .1) in
+    let facts = has-unit-width (the-case .before .before) (the-case .filter2 .given .1) in
     (facts .0 .0, facts .1)
 
 sub-room-test-2 : tie.Need-sub-room-test-2
 unfolding headerLength
-sub-room-test-2 c = omega (arith, known (c .before .before) (c .enum-told2 .given .1) .1)
+sub-room-test-2 c = omega (arith, has-unit-width (c .before .before) (c .enum-told2 .given .1) .1)
 
 returns : tie.Need-returns
 returns c =

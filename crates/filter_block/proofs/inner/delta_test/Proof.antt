@@ -11,17 +11,17 @@ use Rattle.filter_block.proofs.inner.delta_test.Tie as tie
 
 -- the length of the data
 long : (c : tie.After-header-length) → let a = c .before .before .args in
-    length (a .block .now) - c .header-length .result ≡ length (a .block .now) - headerLength (Delta (a .w))
+    length (a .block .now) - c .header-length .result ≡ length (a .block .now) - headerLength (Delta (a .width))
 long c = ap (λ (h : ℕ). length (c .before .before .args .block .now) - h) (c .header-length .ensures .0)
 
 returns : tie.Need-returns
-returns c = let a = c .before .before .before .args in delta-broken (a .room) (a .block .now) (a .w) _ (long (c .before)) (c .if1 .taken)
+returns c = let a = c .before .before .before .args in delta-broken (a .room) (a .block .now) (a .width) _ (long (c .before)) (c .if1 .taken)
 
 returns-2 : tie.Need-returns-2
 returns-2 c =
     let s = c .before .before .before .before in
     let a = s .args in
-    c .room-test .ensures ∙ delta-whole (a .room) (a .block .now) (a .w) _ (long (c .before .before)) (s .pre .0) (c .before .if1 .left)
+    c .room-test .ensures ∙ delta-whole (a .room) (a .block .now) (a .width) _ (long (c .before .before)) (s .pre .0) (c .before .if1 .left)
 
 pub delta-test-spec : {M : Type 1} → statement M
 delta-test-spec =

@@ -10,8 +10,8 @@ use Rattle.filter_block.proofs.inner.narrow_test.Tie as tie
 
 -- what was counted in the data
 told : (c : tie.After-count-units) → let a = c .before .before .before .args in
-    c .count-units .result ≡ counted (a .w) (drop 1 (a .block .now))
-told c = let a = c .before .before .before .args in c .count-units .ensures ∙ ap (counted (a .w)) (part-end 1 (a .block .now))
+    c .count-units .result ≡ counted (a .width) (drop 1 (a .block .now))
+told c = let a = c .before .before .before .args in c .count-units .ensures ∙ ap (counted (a .width)) (part-end 1 (a .block .now))
 
 returns : tie.Need-returns
 returns c = narrow-lacking _ _ _ (sym (c .enum-told .given .1) ∙ told (c .before .before))
@@ -19,7 +19,7 @@ returns c = narrow-lacking _ _ _ (sym (c .enum-told .given .1) ∙ told (c .befo
 returns-2 : tie.Need-returns-2
 returns-2 c =
     let units = c .before .before in
-    c .unit-test .ensures ∙ narrow-units _ _ _ _ (sym (units .counted .given .1) ∙ told (units .before .before))
+    c .units-room-test .ensures ∙ narrow-units _ _ _ _ (sym (units .counted .given .1) ∙ told (units .before .before))
 
 pub narrow-test-spec : {M : Type 1} → statement M
 narrow-test-spec =

@@ -11,13 +11,13 @@ abbrev at-header : tie.After-header-length → tie.Start
 at-header h = h .before .before .before
 
 shared-slice-read-wide : tie.Need-shared-slice-read-wide
-shared-slice-read-wide c = let s = at-header (c .before) in level-in (s .args .w) (s .args .block .now) (s .pre .1)
+shared-slice-read-wide c = let s = at-header (c .before) in level-in (s .args .width) (s .args .block .now) (s .pre .1)
 
-put-undone-requires : tie.Need-put-undone-requires
-put-undone-requires c κs =
+put-undelta-requires : tie.Need-put-undelta-requires
+put-undelta-requires c κs =
     let header = c .before .before .before .before in
     let s = at-header header in
-    delta-given (s .args .block .now) (s .args .out .now) (s .args .w) _ (s .pre) (header .header-length .ensures .0)
+    delta-given (s .args .block .now) (s .args .out .now) (s .args .width) _ (s .pre) (header .header-length .ensures .0)
 
 returns : tie.Need-returns
 returns c =
@@ -25,8 +25,8 @@ returns c =
     let level = made .before .before .before in
     let header = level .before .before in
     let s = at-header header in
-    delta-put (s .args .block .now) (s .args .out .now) (s .args .w) _ (s .pre) (header .header-length .ensures .0)
-    _ (made .put-undone .last .0) (level .wide .ensures .0) (made .put-undone .ensures)
+    delta-put (s .args .block .now) (s .args .out .now) (s .args .width) _ (s .pre) (header .header-length .ensures .0)
+    _ (made .put-undelta .last .0) (level .wide .ensures .0) (made .put-undelta .ensures)
 
 pub undo-delta-spec : {M : Type 1} → statement M
 undo-delta-spec =
@@ -38,7 +38,7 @@ undo-delta-spec =
     (λ c. search needs)
     (λ c. search needs)
     (λ c. search needs)
-    put-undone-requires
+    put-undelta-requires
     (λ c. search needs)
     (λ c. search needs)
     returns)

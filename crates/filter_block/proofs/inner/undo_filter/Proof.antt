@@ -6,8 +6,8 @@ use mathlib.Core.List.{List}
 use borrow.Author.Needs.{needs}
 use lib.ListN.{length}
 use Rattle.filter_format.specs.declared.Filter.{Filter}
-use Rattle.filter_block.specs.Tests.{Opens}
-use Rattle.filter_block.proofs.Opening.{Put, opens, put-of, put-other}
+use Rattle.filter_block.specs.Tests.{Undoable}
+use Rattle.filter_block.proofs.Opening.{Put, undoable, put-of, put-other}
 use Rattle.filter_block.proofs.inner.undo_filter.Statement.{statement}
 use Rattle.filter_block.proofs.inner.undo_filter.Tie as tie
 
@@ -17,8 +17,8 @@ start m = m .before .before
 
 -- of the case g that the filter is: what the start knows, and what is to be put
 opened : (m : tie.After-shared-slice-known) {g : Filter} → let a = start m .args in
-    a .filter ≡ g → Opens g (a .block .now) (length (a .out .now))
-opened m e = let s = start m in opens (s .args .filter) _ (s .args .block .now) (length (s .args .out .now)) e (s .pre)
+    a .filter ≡ g → Undoable g (a .block .now) (length (a .out .now))
+opened m e = let s = start m in undoable (s .args .filter) _ (s .args .block .now) (length (s .args .out .now)) e (s .pre)
 
 put : (m : tie.After-shared-slice-known) {g : Filter} {r : ℕ} {out' : List ℕ} → let a = start m .args in
     a .filter ≡ g → Put g (a .block .now) r (a .out .now) out' → Put (a .filter) (a .block .now) r (a .out .now) out'

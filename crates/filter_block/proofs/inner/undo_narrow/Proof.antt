@@ -26,7 +26,7 @@ returns c =
     let made = c .before .before in
     let s = at-part (made .before .before) in
     let widened = made .put-widened in
-    narrow-put (s .args .block .now) (s .args .out .now) (s .args .w) (s .pre)
+    narrow-put (s .args .block .now) (s .args .out .now) (s .args .width) (s .pre)
     (widened .result) (widened .last .0) (widened .ensures .0) (widened .ensures .1)
 
 pub undo-narrow-spec : {M : Type 1} → statement M

@@ -15,7 +15,7 @@ abbrev μ-loop : tie.MeasureT-loop
 μ-loop source w at₀ units₀ at units = length source - at
 
 loop-holds : tie.Need-loop-holds Inv-loop μ-loop
-loop-holds c = counting-start (c .args .w) (c .args .source .now)
+loop-holds c = counting-start (c .args .width) (c .args .source .now)
 
 returns : tie.Need-returns Inv-loop μ-loop
 returns c =

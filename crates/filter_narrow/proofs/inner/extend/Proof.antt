@@ -9,11 +9,11 @@ use Rattle.filter_narrow.proofs.inner.extend.Tie as tie
 
 returns : tie.Need-returns
 unfolding extended
-returns c = rw (lt-ltb (c .before .args .c) 128 (c .if1 .taken))
+returns c = rw (lt-ltb (c .before .args .byte) 128 (c .if1 .taken))
 
 returns-2 : tie.Need-returns-2
 unfolding extended
-returns-2 c = rw (le-ltb (c .before .args .c) 128 (c .if1 .left)) (omega arith)
+returns-2 c = rw (le-ltb (c .before .args .byte) 128 (c .if1 .left)) (omega arith)
 
 pub extend-spec : {M : Type 1} → statement M
 extend-spec = tie.close (tie.spec (λ c. search needs) returns returns-2)

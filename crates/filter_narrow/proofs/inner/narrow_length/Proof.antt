@@ -10,12 +10,12 @@ use Rattle.filter_narrow.proofs.inner.narrow_length.Tie as tie
 returns : tie.Need-returns
 returns c =
     let a = c .before .before .args in
-    (sym (length-one (a .w) (a .u) (c .before .fits-one .ensures) (c .if1 .taken)), omega arith)
+    (sym (length-one (a .width) (a .unit) (c .before .fits-one .ensures) (c .if1 .taken)), omega arith)
 
 returns-2 : tie.Need-returns-2
 returns-2 c =
     let a = c .before .before .args in
-    (sym (length-whole (a .w) (a .u) (c .before .fits-one .ensures) (c .if1 .left)), omega arith)
+    (sym (length-whole (a .width) (a .unit) (c .before .fits-one .ensures) (c .if1 .left)), omega arith)
 
 pub narrow-length-spec : {M : Type 1} → statement M
 narrow-length-spec =

@@ -13,7 +13,7 @@ abbrev μ-loop : tie.MeasureT-loop
 μ-loop source w from₀ left₀ size₀ from left size = left
 
 loop-holds : tie.Need-loop-holds Inv-loop μ-loop
-loop-holds c = let a = c .before in measuring-start (a .args .w) (a .args .source .now) (a .pre .1) (a .pre .2)
+loop-holds c = let a = c .before in measuring-start (a .args .width) (a .args .source .now) (a .pre .1) (a .pre .2)
 
 get-unit-requires : tie.Need-get-unit-requires Inv-loop μ-loop
 get-unit-requires c κs = (c .before .before .before .pre .0, remaining-within (c .before .loop .inv .units) (c .loop-test .taken))

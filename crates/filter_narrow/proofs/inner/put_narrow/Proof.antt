@@ -11,11 +11,11 @@ use Rattle.filter_narrow.proofs.inner.put_narrow.Statement.{statement}
 use Rattle.filter_narrow.proofs.inner.put_narrow.Tie as tie
 
 -- how long the unit is, where the test holds and where it does not
-one-byte : (c : tie.Then1) → let a = c .before .before .before .args in length (narrowUnit (a .w) (a .u)) ≡ 1
-one-byte c = let a = c .before .before .before .args in length-one (a .w) (a .u) (c .before .fits-one .ensures) (c .if1 .taken)
+one-byte : (c : tie.Then1) → let a = c .before .before .before .args in length (narrowUnit (a .width) (a .unit)) ≡ 1
+one-byte c = let a = c .before .before .before .args in length-one (a .width) (a .unit) (c .before .fits-one .ensures) (c .if1 .taken)
 
-whole : (c : tie.Else1) → let a = c .before .before .before .args in length (narrowUnit (a .w) (a .u)) ≡ a .w + 1
-whole c = let a = c .before .before .before .args in length-whole (a .w) (a .u) (c .before .fits-one .ensures) (c .if1 .left)
+whole : (c : tie.Else1) → let a = c .before .before .before .args in length (narrowUnit (a .width) (a .unit)) ≡ a .width + 1
+whole c = let a = c .before .before .before .args in length-whole (a .width) (a .unit) (c .before .fits-one .ensures) (c .if1 .left)
 
 slice-write-out : tie.Need-slice-write-out
 slice-write-out c = omega (arith, one-byte c)
@@ -33,7 +33,7 @@ returns c =
     let s = c .before .before .before in
     let a = s .args in (
       ap (λ (n : ℕ). a .at + n) (sym (one-byte c)),
-      put-one (a .w) (a .u) (c .before .fits-one .ensures) (a .at) (a .out .now) (s .pre .1) (c .if1 .taken),
+      put-one (a .width) (a .unit) (c .before .fits-one .ensures) (a .at) (a .out .now) (s .pre .1) (c .if1 .taken),
     )
 
 same-length-2 : tie.Need-same-length-2
@@ -47,7 +47,7 @@ returns-2 c =
     let a = s .args in
     let p = k .put-unit in (
       ap (λ (n : ℕ). a .at + n) (sym (whole e)),
-      put-whole (a .w) (a .u) (e .before .fits-one .ensures) (a .at) (a .out .now) (s .pre .1) (e .if1 .left) (p .last .0) (p .ensures),
+      put-whole (a .width) (a .unit) (e .before .fits-one .ensures) (a .at) (a .out .now) (s .pre .1) (e .if1 .left) (p .last .0) (p .ensures),
     )
 
 pub put-narrow-spec : {M : Type 1} → statement M

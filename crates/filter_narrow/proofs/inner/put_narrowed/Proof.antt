@@ -19,7 +19,7 @@ at-turn c = c .before .before
 loop-holds : tie.Need-loop-holds Inv-loop μ-loop
 loop-holds c =
     let a = c .before .before in
-    narrowing-start (a .args .w) (a .args .at) (a .args .source .now) (a .args .out .now) (a .pre .1) (a .pre .2)
+    narrowing-start (a .args .width) (a .args .at) (a .args .source .now) (a .args .out .now) (a .pre .1) (a .pre .2)
 
 get-unit-requires : tie.Need-get-unit-requires Inv-loop μ-loop
 get-unit-requires c κs =

@@ -25,7 +25,7 @@ loop-holds : tie.Need-loop-holds Inv-loop μ-loop
 loop-holds c =
     let s = c .before .before in
     let bytes = bytes-of (s .args .source .now) (λ i. c .shared-slice-known .given i .fits) in
-    widening-start (s .args .w) (s .args .source .now) (s .args .out .now) bytes (s .pre .0) (s .pre .1) (s .pre .2)
+    widening-start (s .args .width) (s .args .source .now) (s .args .out .now) bytes (s .pre .0) (s .pre .1) (s .pre .2)
 
 get-unit-requires : tie.Need-get-unit-requires Inv-loop μ-loop
 get-unit-requires c κs = search widening

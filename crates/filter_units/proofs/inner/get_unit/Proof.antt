@@ -9,19 +9,19 @@ returns : tie.Need-returns
 returns c =
     let a = c .before .before .before .before .args in
     let r = c .wide in
-    got-one (a .s .now) (a .at) (a .w) (r .result) (c .before .before .if1 .taken) (omega arith) (r .ensures .0) (r .ensures .1)
+    got-one (a .bytes .now) (a .at) (a .width) (r .result) (c .before .before .if1 .taken) (omega arith) (r .ensures .0) (r .ensures .1)
 
 returns-2 : tie.Need-returns-2
 returns-2 c =
     let a = c .before .before .before .before .args in
     let r = c .get16 in
-    got (a .s .now) (a .at) (a .w) 2 (r .result) (c .before .if2 .taken) (r .ensures .0) (r .ensures .1)
+    got (a .bytes .now) (a .at) (a .width) 2 (r .result) (c .before .if2 .taken) (r .ensures .0) (r .ensures .1)
 
 returns-3 : tie.Need-returns-3
 returns-3 c =
     let a = c .before .before .before .before .args in
     let r = c .get32 in
-    got (a .s .now) (a .at) (a .w) 4 (r .result) (omega arith) (r .ensures .0) (r .ensures .1)
+    got (a .bytes .now) (a .at) (a .width) 4 (r .result) (omega arith) (r .ensures .0) (r .ensures .1)
 
 pub get-unit-spec : {M : Type 1} → statement M
 get-unit-spec =

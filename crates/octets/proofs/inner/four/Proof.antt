@@ -16,7 +16,7 @@ at-third c = c .before .before .before .before
 returns : tie.Need-returns
 returns c =
     let d = at-first (at-third (c .before .before)) in
-    (omega (arith, number-four (d .args .at) (d .args .s .now) (d .pre)), omega arith)
+    (omega (arith, number-four (d .args .at) (d .args .bytes .now) (d .pre)), omega arith)
 
 pub four-spec : {M : Type 1} → statement M
 four-spec =

@@ -9,7 +9,7 @@ returns : tie.Need-returns
 returns c =
     let w = c .before .before in
     let a = w .before .before .before .args in
-    (omega (arith, number-two (a .at) (a .s .now) (omega arith)), omega arith)
+    (omega (arith, number-two (a .at) (a .bytes .now) (omega arith)), omega arith)
 
 pub get16-spec : {M : Type 1} → statement M
 get16-spec =

@@ -6,7 +6,7 @@ use Rattle.octets.proofs.inner.get64.Statement.{statement}
 use Rattle.octets.proofs.inner.get64.Tie as tie
 
 returns : tie.Need-returns
-returns c = let a = c .before .before .before .args in omega (arith, number-split (a .at) 4 4 (a .s .now) (omega arith))
+returns c = let a = c .before .before .before .args in omega (arith, number-split (a .at) 4 4 (a .bytes .now) (omega arith))
 
 pub get64-spec : {M : Type 1} → statement M
 get64-spec =

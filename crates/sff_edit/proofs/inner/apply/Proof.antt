@@ -5,7 +5,7 @@ use native.Mathlib.Omega.{arith}
 use lib.ListN.{length}
 use lib.Seq.{length-take-le}
 use Rattle.octets.proofs.AllBytes.{bytes-of, bytes-take}
-use Rattle.sff_edit.proofs.InPlace.{Ready, ready-record, ready-clips, ready-field, ready-header, ready-start, ready-read}
+use Rattle.sff_edit.proofs.InPlace.{ReadyToEdit, ready-record, ready-clips, ready-field, ready-header, ready-start, ready-read}
 use Rattle.sff_edit.proofs.InPlace.{clips-done, section-least, section-inside, name-room, name-inside, name-done}
 use Rattle.sff_edit.proofs.InPlace.{reads-least, end-inside, none-done}
 use borrow.Author.Needs.{needs}
@@ -13,7 +13,7 @@ use Rattle.sff_edit.proofs.inner.apply.Statement.{statement}
 use Rattle.sff_edit.proofs.inner.apply.Tie as tie
 
 -- what is known at the start
-ready : (c : tie.After-slice-known) → let a = c .before .args in Ready (a .buffer .now) (a .len) (a .place) (a .fields) (a .«record» .now)
+ready : (c : tie.After-slice-known) → let a = c .before .args in ReadyToEdit (a .buffer .now) (a .len) (a .place) (a .fields) (a .«record» .now)
 ready c =
     let a = c .before .args in
     let d = c .before .pre in

@@ -16,7 +16,7 @@ returns c =
     let start = old .before .before .before .before in
     let a = start .args in (
       search needs,
-      name-put (a .p) (a .len) (a .n) (a .field .now) (a .buffer .now) (old .get16 .ensures .0) (new .up8 .ensures) (name .splice .ensures)
+      name-put (a .place) (a .len) (a .n) (a .field .now) (a .buffer .now) (old .get16 .ensures .0) (new .up8 .ensures) (name .splice .ensures)
           (section-length .put16 .ensures) (name-length .put162 .ensures) (omega (arith, start .pre)),
     )
 

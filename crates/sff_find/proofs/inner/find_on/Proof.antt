@@ -19,8 +19,8 @@ seek-requires c κs =
     let d = known .before in
     let a = d .args in
     let h = c .before .header-fields .ensures in
-    let y = bytes-of (a .s .now) (λ j. known .shared-slice-known .given j .fits) in
-    let l : a .from .position < readCount (a .s .now) = omega (arith, d .pre) in
+    let y = bytes-of (a .file .now) (λ j. known .shared-slice-known .given j .fits) in
+    let l : a .from .position < readCount (a .file .now) = omega (arith, d .pre) in
     let walk = walk-at _ (d .pre .0) y _ l (d .pre .1 .1 .known l) in
     (h .0, (h .1, (rw (c .boundary-at .ensures) walk, (omega arith, d .pre .1 .0))))
 

@@ -1,5 +1,5 @@
 -- Each field is read at the place and in the width that `headerOf` reads it in, and each read promises that its number
--- fits that width, which is what `Small` asks.
+-- fits that width, which is what `FieldsFit` asks.
 use Rattle.sff_header.specs.Header.{headerOf}
 use borrow.Author.Needs.{needs}
 use Rattle.sff_header.proofs.inner.header_fields.Statement.{statement}

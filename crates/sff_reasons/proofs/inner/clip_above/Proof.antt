@@ -12,7 +12,7 @@ use Rattle.sff_reasons.proofs.inner.clip_above.Tie as tie
 abbrev start : tie.Else1 → tie.Start
 start c = c .before .before .before .before
 
-begins : (c : tie.Else1) → start c .args .place + 16 ≤ length (start c .args .s .now)
+begins : (c : tie.Else1) → start c .args .place + 16 ≤ length (start c .args .file .now)
 begins c = found-begins (start c .pre .0) (start c .pre .1)
 
 returns : tie.Need-returns

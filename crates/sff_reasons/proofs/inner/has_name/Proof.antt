@@ -12,7 +12,7 @@ returns-2 : tie.Need-returns-2
 returns-2 c =
     let size = c .before .before in
     let a = size .before .before .before .args in
-    names-compared _ (a .s .now) (a .p + 16) _ (size .get16 .ensures .0) (c .before .if1 .left) (c .same-part .ensures)
+    names-compared _ (a .file .now) (a .place + 16) _ (size .get16 .ensures .0) (c .before .if1 .left) (c .same-part .ensures)
 
 pub has-name-spec : {M : Type 1} → statement M
 has-name-spec =

@@ -16,12 +16,12 @@ get32-requires c κs = let h = fits-31 _ (head-ok _ (c .before .before .pre)) in
 returns : tie.Need-returns
 returns c room =
     let a = start (c .before .before) .args in
-    below-told (a .s .now) (a .«record» .now) (a .fields) room (omega (arith, c .before .before .get32 .ensures .0, c .if1 .taken))
+    below-told (a .file .now) (a .«record» .now) (a .fields) room (omega (arith, c .before .before .get32 .ensures .0, c .if1 .taken))
 
 returns-2 : tie.Need-returns-2
 returns-2 c room =
     let a = start (c .before .before) .args in
-    above-told (a .s .now) (a .«record» .now) (a .fields) room (omega (arith, c .before .before .get32 .ensures .0, c .if1 .left))
+    above-told (a .file .now) (a .«record» .now) (a .fields) room (omega (arith, c .before .before .get32 .ensures .0, c .if1 .left))
 
 pub position-above-spec : {M : Type 1} → statement M
 position-above-spec = tie.close (tie.spec get32-requires returns returns-2)

@@ -6,9 +6,9 @@ use Rattle.octets.proofs.AllBytes.{bytes-of}
 use Rattle.answers.specs.Rows.{Row, firstRow}
 use Rattle.answers.proofs.Rows.{row-holds, row-not}
 use Rattle.sff_format.specs.Parse.{parse}
-use Rattle.sff_correction.specs.Fields.{asked}
-use Rattle.sff_correction.specs.Reasons.{reasonRows, reasons}
-use Rattle.sff_reasons.specs.Found.{Found}
+use Rattle.correction_format.specs.Fields.{asked}
+use Rattle.correction_format.specs.Reasons.{reasonRows, reasons}
+use Rattle.sff_reasons.specs.ReadAtPosition.{ReadAtPosition}
 use Rattle.sff_reasons.proofs.Told.{read-there}
 use Rattle.sff_reasons.proofs.inner.reason.Statement.{statement}
 use Rattle.sff_reasons.proofs.inner.reason.Tie as tie
@@ -16,11 +16,11 @@ use Rattle.sff_reasons.proofs.inner.reason.Tie as tie
 abbrev Begun : Type 0
 Begun = tie.After-shared-slice-known2
 
-found : (d : Begun) → Found (d .before .before .args .s .now) (d .before .before .args .«record» .now) (d .before .before .args .fields)
+found : (d : Begun) → ReadAtPosition (d .before .before .args .file .now) (d .before .before .args .«record» .now) (d .before .before .args .fields)
 found d =
     let e = d .before .before .pre in
     record {
-      bytes = bytes-of (d .before .before .args .s .now) (λ j. d .before .shared-slice-known .given j .fits);
+      bytes = bytes-of (d .before .before .args .file .now) (λ j. d .before .shared-slice-known .given j .fits);
       accepted = e .0;
       formed = e .1 .0;
       fields-of = e .1 .1 .0;
@@ -28,7 +28,7 @@ found d =
     }
 
 abbrev rows : Begun → List Row
-rows d = let a = d .before .before .args in reasonRows (a .room) (asked (a .fields) (a .«record» .now)) (parse (a .s .now))
+rows d = let a = d .before .before .args in reasonRows (a .room) (asked (a .fields) (a .«record» .now)) (parse (a .file .now))
 
 -- no reason holds up to 21, 22, 25, 23, 24: the rows behind it decide
 none-21 : (d : Begun) → firstRow (rows d) ≡ firstRow (drop 1 (rows d))
@@ -56,7 +56,7 @@ abbrev at-24 : tie.Else4 → Begun
 at-24 c = at-23 (c .before .before)
 
 none-24 : (c : tie.Else4) → firstRow (rows (at-24 c)) ≡ firstRow (drop 5 (rows (at-24 c)))
-none-24 c = none-23 (c .before .before) ∙ row-not 24 _ _ (sym (c .before .name-borne .ensures _) ∙ c .if4 .left)
+none-24 c = none-23 (c .before .before) ∙ row-not 24 _ _ (sym (c .before .name-taken .ensures _) ∙ c .if4 .left)
 
 other-name-requires : tie.Need-other-name-requires
 other-name-requires c κs = (found c, c .before .before .pre .1 .1 .1 .1 .0)
@@ -79,12 +79,12 @@ returns-3 : tie.Need-returns-3
 unfolding reasons
 returns-3 c = sym (none-25 (c .before .before) ∙ row-holds 23 _ _ (sym (c .before .clip-above .ensures _) ∙ c .if3 .taken))
 
-name-borne-requires : tie.Need-name-borne-requires
-name-borne-requires c κs = found (at-23 c)
+name-taken-requires : tie.Need-name-taken-requires
+name-taken-requires c κs = found (at-23 c)
 
 returns-4 : tie.Need-returns-4
 unfolding reasons
-returns-4 c = sym (none-23 (c .before .before) ∙ row-holds 24 _ _ (sym (c .before .name-borne .ensures _) ∙ c .if4 .taken))
+returns-4 c = sym (none-23 (c .before .before) ∙ row-holds 24 _ _ (sym (c .before .name-taken .ensures _) ∙ c .if4 .taken))
 
 no-room-requires : tie.Need-no-room-requires
 no-room-requires c κs = let e = at-24 c .before .before .pre .1 .1 .1 .1 in (found (at-24 c), (e .0, e .1))
@@ -107,7 +107,7 @@ reason-spec =
     returns-2
     clip-above-requires
     returns-3
-    name-borne-requires
+    name-taken-requires
     returns-4
     no-room-requires
     returns-5

@@ -1,6 +1,7 @@
 -- At each turn both tests still seek, from this base on, what they sought from the first (`Matched`). So each of the
--- three breaks yields `callRun`, with the flow position there (`Stopped`). At the end both tests are through. Else the
--- walk breaks at that place, or `walk_stop` gives `walkRun` from the next base on: `basesTest` is made of these two.
+-- three breaks yields `matchedCount`, with the flow position there (`Stopped`). At the end both tests are through. Else
+-- the walk breaks at that place, or `walk_stop` gives `walkedCount` from the next base on: `basesTest` is made of these
+-- two.
 use Prim.Native.Nat.{_+_, _-_}
 use mathlib.Core.Logic.{⊎-elim}
 use mathlib.Core.Path.{_≡_, sym, _∙_}
@@ -24,15 +25,15 @@ loop-holds : tie.Need-loop-holds Inv-loop μ-loop
 loop-holds c = search (matched-start, needs)
 
 -- the walk does not break at this base, so the base has a flow
-is-call-requires : tie.Need-is-call-requires Inv-loop μ-loop
-is-call-requires c κs =
+base-matches-requires : tie.Need-base-matches-requires Inv-loop μ-loop
+base-matches-requires c κs =
     let d = c .before in
     let f = flow-in _ _ (sym (d .before .within .ensures) ∙ not-false _ (d .if2 .left)) in omega (arith, f)
 
 loop-again : tie.Need-loop-again Inv-loop μ-loop
 loop-again c =
-    let called = c .before .before in
-    let kept = called .before .before in
+    let matched = c .before .before in
+    let kept = matched .before .before in
     let walk = kept .before .before in
     let turn = walk .before .before in
     matched-more
@@ -41,7 +42,7 @@ loop-again c =
     (walk .after .ensures)
     (kept .before .within .ensures)
     (kept .if2 .left)
-    (called .is-call .ensures)
+    (matched .base-matches .ensures)
     (c .before .if3 .left)
     (c .next .ensures)
 
@@ -67,10 +68,10 @@ stopped c =
     (λ walk.
     rw (walk .5) (stopped-walk m (walk .0 .left) (walk .2 .ensures) (walk .3 .ensures) (walk .4 .taken) (walk .6)))
     (λ base.
-    let called = base .6 .ensures in
+    let matched = base .6 .ensures in
     let wrong = base .7 .taken in
     rw (base .8)
-    (stopped-base m (base .0 .left) (base .2 .ensures) (base .3 .ensures) (base .4 .left) called wrong (base .9))))
+    (stopped-base m (base .0 .left) (base .2 .ensures) (base .3 .ensures) (base .4 .left) matched wrong (base .9))))
     (c .if1 .came)
 
 returns : tie.Need-returns Inv-loop μ-loop
@@ -133,7 +134,7 @@ bases-test-spec =
     (λ c. search needs)
     (λ c. search needs)
     (λ c. search needs)
-    is-call-requires
+    base-matches-requires
     (λ c. search needs)
     (λ c κs. search needs)
     (λ c. search needs)

@@ -23,7 +23,7 @@ returns c =
     let a = c .before .before .args in
     let e : a .size ≡ a .n = omega arith in
     let z : a .n - a .n ≡ 0 = omega arith in
-    rw (e, z, append-nil) (sym (put-same (a .at + a .n) (a .end - (a .at + a .n)) (a .s .now) (omega arith)))
+    rw (e, z, append-nil) (sym (put-same (a .at + a .n) (a .end - (a .at + a .n)) (a .buffer .now) (omega arith)))
 
 returns-2 : tie.Need-returns-2
 returns-2 c =
@@ -38,12 +38,12 @@ returns-3 c =
     let m = f .before .before .before .before in
     let a = at-shorter (m .before .before) .args in
     let count : ℕ = a .end - (a .at + a .n) in
-    let tail : List ℕ = part (a .at + a .n) count (a .s .now) in
+    let tail : List ℕ = part (a .at + a .n) count (a .buffer .now) in
     let z : a .end - (a .at + a .size + count) ≡ a .n - a .size = omega arith in
-    let len : length tail ≡ count = length-part (a .at + a .n) count (a .s .now) (omega arith) in
+    let len : length tail ≡ count = length-part (a .at + a .n) count (a .buffer .now) (omega arith) in
     rw (← z)
     (rw (m .move-down .ensures) at (f .fill .ensures)
-    ∙ put-next (a .at + a .size) count tail (replicate (a .end - (a .at + a .size + count)) 0) (a .s .now) len (omega arith))
+    ∙ put-next (a .at + a .size) count tail (replicate (a .end - (a .at + a .size + count)) 0) (a .buffer .now) len (omega arith))
 
 pub resize-spec : {M : Type 1} → statement M
 resize-spec =

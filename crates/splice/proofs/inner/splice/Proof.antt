@@ -17,12 +17,12 @@ returns c =
     let k = c .before .before in
     let r = k .before .before .before .before in
     let a = r .before .before .before .before .args in
-    let tail : List ℕ = part (a .at + a .n) (a .end - (a .at + a .n)) (a .s .now) in
+    let tail : List ℕ = part (a .at + a .n) (a .end - (a .at + a .n)) (a .buffer .now) in
     let put : List ℕ = part (a .from) (a .size) (a .source .now) in
     let len : length put ≡ a .size = length-part (a .from) (a .size) (a .source .now) (omega arith) in
     rw len
     (rw (r .resize .ensures) at (k .copy .ensures)
-    ∙ put-before (a .at) (a .size) put (tail ++ replicate (a .n - a .size) 0) (a .s .now) len (omega arith))
+    ∙ put-before (a .at) (a .size) put (tail ++ replicate (a .n - a .size) 0) (a .buffer .now) len (omega arith))
 
 pub splice-spec : {M : Type 1} → statement M
 splice-spec = tie.close (tie.spec (λ c κs. search needs) (λ c κs. search needs) (λ c. search needs) returns)

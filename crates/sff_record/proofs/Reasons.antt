@@ -14,9 +14,9 @@ use Rattle.answers.proofs.Chains.{refuses, accepts}
 use Rattle.correction_format.specs.Record.{nameFieldTest, unusedTest}
 
 -- bytes from p to p + n
-pub whole-part : (p n : ℕ) (r : List ℕ) (test : ℕ → Bool) {t v : Bool} → t ≡ fails test (part p (p + n - p) r) → t ≡ v
+pub part-tested : (p n : ℕ) (r : List ℕ) (test : ℕ → Bool) {t v : Bool} → t ≡ fails test (part p (p + n - p) r) → t ≡ v
     → fails test (part p n r) ≡ v
-whole-part p n r test e f = sym (rw add-sub-cancel-left at e) ∙ f
+part-tested p n r test e f = sym (rw add-sub-cancel-left at e) ∙ f
 
 -- the zeros after a name of n bytes
 pub zeros-after : (p n : ℕ) (r : List ℕ) {x : Answer} → n ≤ 40 → x ≡ unusedTest (p + n) (p + 40 - (p + n)) r

@@ -2,7 +2,7 @@
 -- with all levels on, and the rest of the buffer is as it was.
 use borrow.Author.Needs.{needs}
 use Rattle.filter_delta.proofs.Transform.{put-on}
-use Rattle.filter_delta.proofs.Lent.{Copied, lent-whole, given-back}
+use Rattle.filter_delta.proofs.LentPart.{Copied, lent-whole, given-back}
 use Rattle.filter_delta.proofs.inner.put_delta.Statement.{statement}
 use Rattle.filter_delta.proofs.inner.put_delta.Tie as tie
 

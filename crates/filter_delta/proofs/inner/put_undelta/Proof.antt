@@ -2,7 +2,7 @@
 -- there with all levels off, and the rest of the buffer is as it was.
 use borrow.Author.Needs.{needs}
 use Rattle.filter_delta.proofs.Transform.{taken-off}
-use Rattle.filter_delta.proofs.Lent.{Copied, lent-whole, given-back}
+use Rattle.filter_delta.proofs.LentPart.{Copied, lent-whole, given-back}
 use Rattle.filter_delta.proofs.inner.put_undelta.Statement.{statement}
 use Rattle.filter_delta.proofs.inner.put_undelta.Tie as tie
 

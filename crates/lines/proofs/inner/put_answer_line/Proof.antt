@@ -18,6 +18,17 @@ at-count c = let lent = c .before .before .before in lent .before .before
 abbrev start : tie.After-put-labelled-number → tie.Start
 start c = c .before .before .before .before
 
+-- first the promise: a wrong line may fit as well
+returns : tie.Need-returns
+unfolding answerLine
+returns c =
+    let size = c .before .before in
+    let place = at-place size in
+    let number = at-number place in
+    let count = at-count number in
+    four-all _ _ _ _ (start count .pre) (count .put-labelled-number .ensures) (number .put-labelled-number2 .ensures)
+    (place .put-labelled-number3 .ensures) (size .put-labelled-number4 .ensures)
+
 put-labelled-number-requires : tie.Need-put-labelled-number-requires
 unfolding answerLine
 put-labelled-number-requires c κs = search four
@@ -33,16 +44,6 @@ put-labelled-number-requires-3 c κs = search four-3
 put-labelled-number-requires-4 : tie.Need-put-labelled-number-requires-4
 unfolding answerLine
 put-labelled-number-requires-4 c κs = search four-4
-
-returns : tie.Need-returns
-unfolding answerLine
-returns c =
-    let size = c .before .before in
-    let place = at-place size in
-    let number = at-number place in
-    let count = at-count number in
-    four-all _ _ _ _ (start count .pre) (count .put-labelled-number .ensures) (number .put-labelled-number2 .ensures)
-    (place .put-labelled-number3 .ensures) (size .put-labelled-number4 .ensures)
 
 pub put-answer-line-spec : {M : Type 1} → statement M
 put-answer-line-spec =

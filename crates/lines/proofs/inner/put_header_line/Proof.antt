@@ -15,6 +15,16 @@ at-flows c = let lent = c .before .before .before in lent .before .before
 abbrev start : tie.After-put-labelled-number → tie.Start
 start c = let known = c .before .before .before in known .before .before
 
+-- first the promise: a wrong line may fit as well
+returns : tie.Need-returns
+unfolding headerLine
+returns c =
+    let reads = c .before .before in
+    let key = at-key reads in
+    let flows = at-flows key in
+    three-all _ _ _ (start flows .pre) (flows .put-labelled-number .ensures) (key .put-labelled-word .ensures)
+    (reads .put-labelled-number2 .ensures)
+
 put-labelled-number-requires : tie.Need-put-labelled-number-requires
 unfolding headerLine
 put-labelled-number-requires c κs = search three
@@ -26,15 +36,6 @@ put-labelled-word-requires c κs = search three
 put-labelled-number-requires-2 : tie.Need-put-labelled-number-requires-2
 unfolding headerLine
 put-labelled-number-requires-2 c κs = search three-3
-
-returns : tie.Need-returns
-unfolding headerLine
-returns c =
-    let reads = c .before .before in
-    let key = at-key reads in
-    let flows = at-flows key in
-    three-all _ _ _ (start flows .pre) (flows .put-labelled-number .ensures) (key .put-labelled-word .ensures)
-    (reads .put-labelled-number2 .ensures)
 
 pub put-header-line-spec : {M : Type 1} → statement M
 put-header-line-spec =

@@ -5,6 +5,18 @@ use Rattle.text.proofs.Writing.{four, four-4, four-all}
 use Rattle.lines.proofs.inner.put_read_line.Statement.{statement}
 use Rattle.lines.proofs.inner.put_read_line.Tie as tie
 
+-- first the promise: a wrong line may fit as well
+returns : tie.Need-returns
+unfolding readLine
+returns c =
+    let insert = c .before .before in
+    let extent = insert .before .before .before .before in
+    let name = extent .before .before .before .before in
+    let position = name .before .before .before .before in
+    let asked = position .before .before in
+    four-all _ _ _ _ (asked .before .before .before .pre) (position .put-number-field .ensures) (name .put-word-field .ensures)
+    (extent .put-extent .ensures) (insert .put-word-field2 .ensures)
+
 put-number-field-requires : tie.Need-put-number-field-requires
 unfolding readLine
 put-number-field-requires c κs = search four
@@ -20,17 +32,6 @@ put-extent-requires c κs = search four
 put-word-field-requires-2 : tie.Need-put-word-field-requires-2
 unfolding readLine
 put-word-field-requires-2 c κs = search four-4
-
-returns : tie.Need-returns
-unfolding readLine
-returns c =
-    let insert = c .before .before in
-    let extent = insert .before .before .before .before in
-    let name = extent .before .before .before .before in
-    let position = name .before .before .before .before in
-    let asked = position .before .before in
-    four-all _ _ _ _ (asked .before .before .before .pre) (position .put-number-field .ensures) (name .put-word-field .ensures)
-    (extent .put-extent .ensures) (insert .put-word-field2 .ensures)
 
 pub put-read-line-spec : {M : Type 1} → statement M
 put-read-line-spec =

@@ -5,14 +5,7 @@ use Rattle.text.proofs.Writing.{two, two-all}
 use Rattle.lines.proofs.inner.put_refusal_line.Statement.{statement}
 use Rattle.lines.proofs.inner.put_refusal_line.Tie as tie
 
-put-labelled-number-requires : tie.Need-put-labelled-number-requires
-unfolding refusalLine
-put-labelled-number-requires c κs = search two
-
-put-labelled-number-requires-2 : tie.Need-put-labelled-number-requires-2
-unfolding refusalLine
-put-labelled-number-requires-2 c κs = search two
-
+-- first the promise: a wrong line may fit as well
 returns : tie.Need-returns
 unfolding refusalLine
 returns c =
@@ -21,6 +14,14 @@ returns c =
     let number = lent .before .before in
     two-all _ _ (number .before .before .before .before .pre) (number .put-labelled-number .ensures)
     (place .put-labelled-number2 .ensures)
+
+put-labelled-number-requires : tie.Need-put-labelled-number-requires
+unfolding refusalLine
+put-labelled-number-requires c κs = search two
+
+put-labelled-number-requires-2 : tie.Need-put-labelled-number-requires-2
+unfolding refusalLine
+put-labelled-number-requires-2 c κs = search two
 
 pub put-refusal-line-spec : {M : Type 1} → statement M
 put-refusal-line-spec =

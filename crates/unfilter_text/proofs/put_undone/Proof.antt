@@ -27,14 +27,6 @@ returns c =
     let u = undone .undo .ensures in
     data-held (result undone) (u .0) (a .first .now) _ (a .second .now) (omega arith) (u .1 .1) (c .enum-told .given .1) (u .1 .0)
 
-clear-behind-requires : tie.Need-clear-behind-requires
-clear-behind-requires c κs =
-    let line = c .before .before .before in
-    let told = line .before .before .before in
-    let undone = at-undone (told .before .before) in
-    let g = told .answer .given .0 in
-    counted (refusalLine (g .0) (g .1 .0)) (undone .undo .last .1 .0) (line .write-refusal .ensures) .1 .1 .0
-
 returns-2 : tie.Need-returns-2
 returns-2 c =
     let cleared = c .before .before in
@@ -45,6 +37,15 @@ returns-2 c =
     let u = undone .undo .ensures in
     refusal-held (result undone) (u .0) (a .first .now) (undone .undo .last .1 .0) (a .second .now) (omega arith) (u .1 .1) _ _
     (told .answer .given .1) (line .write-refusal .ensures) (cleared .clear-behind .ensures)
+
+-- last the need of room: a wrong line may fit as well
+clear-behind-requires : tie.Need-clear-behind-requires
+clear-behind-requires c κs =
+    let line = c .before .before .before in
+    let told = line .before .before .before in
+    let undone = at-undone (told .before .before) in
+    let g = told .answer .given .0 in
+    counted (refusalLine (g .0) (g .1 .0)) (undone .undo .last .1 .0) (line .write-refusal .ensures) .1 .1 .0
 
 pub put-undone-spec : {M : Type 1} → statement M
 put-undone-spec =

@@ -1,9 +1,12 @@
 // The answer that every test of the library gives, shared by the definitions and the code, and its number and place.
+
+#![tactic(auto)]
+
 ghost use Rattle.std.specs.Prelude.{◌≡◌};
 ghost use Rattle.answers.specs.Answer.{number_of, place_of};
 
 // What a test answers: document 01's number of the refusal and its byte place.
-#[derive(Drop)]
+#[derive(Clone, Copy)]
 pub enum Answer {
     Accepted,
     Refused(u8, usize),

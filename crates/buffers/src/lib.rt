@@ -1,2 +1,5 @@
 // Numbers, fills, copies and moves put into a lent buffer.
+
+#![tactic(auto)]
+
 pub mod inner;

@@ -1,1 +1,3 @@
 // Claims alone: there is no code here.
+
+#![tactic(auto)]

@@ -1,5 +1,8 @@
 // correct FILE RECORDS NEW-FILE: runs a list of correction records on a file of at most 65,536 bytes, writes the
 // corrected file under a new name and prints the answer.
+
+#![tactic(auto)]
+
 use correction_format::ListOutcome;
 use libc::STDERR_FILENO;
 use loading::{Loaded, load_argument};

@@ -1,5 +1,8 @@
 // What `correct` prints for each file and list that the arguments name in pairs, and the listing of the new file: many
 // stored runs in one.
+
+#![tactic(auto)]
+
 use correction_format::ListOutcome;
 use libc::STDOUT_FILENO;
 use loading::{Loaded, load_argument};

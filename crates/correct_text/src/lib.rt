@@ -1,4 +1,7 @@
 // What `correct` prints of a list run, into a lent buffer, and whether it writes a new file.
+
+#![tactic(auto)]
+
 ghost use Rattle.std.specs.Prelude.{◌≡◌, ◌++◌, length, replicate};
 ghost use Rattle.octets.specs.Parts.{put_at};
 ghost use Rattle.io.specs.Counts.{IsPrefixLen};

@@ -1,9 +1,12 @@
 // The types that the definitions and the code share. There is no function here.
+
+#![tactic(auto)]
+
 use answers::Answer;
 
 // What a list run answers: how many records were carried out, and the answer and the file's length that the last record
 // tried was given.
-#[derive(Drop)]
+#[derive(Clone, Copy)]
 pub struct ListOutcome {
     pub count: usize,
     pub answer: Answer,
@@ -11,7 +14,7 @@ pub struct ListOutcome {
 }
 
 // A well-formed record's fields but for its names, read once.
-#[derive(Drop)]
+#[derive(Clone, Copy)]
 pub struct Fields {
     pub kind: u8,
     pub position: usize,

@@ -1,9 +1,12 @@
 // Units of formats 70 and 71: counted, made whole, and narrowed to one byte where they fit it. All functions are inner:
 // each says what it requires.
+
+#![tactic(auto)]
+
 pub mod inner;
 
 // What a count of units finds.
-#[derive(Drop)]
+#[derive(Clone, Copy)]
 pub enum Counted {
     Units(usize),
     Lacking,

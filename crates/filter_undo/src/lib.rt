@@ -1,4 +1,7 @@
 // Filtered blocks undone: the whole chain of layers, or one layer alone.
+
+#![tactic(auto)]
+
 ghost use Rattle.std.specs.Prelude.{◌≡◌};
 ghost use Rattle.filter_format.specs.Undo.{filtered, room_of, first_after, second_after, undo, undo_layer};
 

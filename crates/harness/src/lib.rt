@@ -1,4 +1,7 @@
 // C exports of the library's calls, for tests and benchmarks alone. No host calls them.
+
+#![tactic(auto)]
+
 ghost use Rattle.service_calls.specs.Outs.{Tested, Corrected};
 ghost use Rattle.harness_files.specs.Outs.{FlowCharactersCopied, KeyCopied, ViewTested, StateMade, SteppedOn};
 ghost use Rattle.harness_files.specs.Outs.{InsertCopied, SignalSummarised, FileMade, ReadAppended};

@@ -1,4 +1,7 @@
 // The list's correction with what it answers copied out, as `harness` exports it.
+
+#![tactic(auto)]
+
 ghost use Rattle.harness_corrections.specs.Outs.{ListCorrected};
 
 use answers::{number_of, place_of};

@@ -1,4 +1,7 @@
 // The calls on files with what they answer copied out, as `harness` exports them.
+
+#![tactic(auto)]
+
 ghost use Rattle.std.specs.Prelude.{◌≡◌, get_or};
 ghost use Rattle.sff_format.specs.Step.{step, found, stop};
 ghost use Rattle.sff_reader.specs.Forms.{state_of};
@@ -19,7 +22,7 @@ use sff_view::view_test;
 use sff_writer::{append, new_file};
 
 // What a step leaves, as numbers.
-#[derive(Drop)]
+#[derive(Clone, Copy)]
 struct Stepped {
     number: u64,
     place: u64,

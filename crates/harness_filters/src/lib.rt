@@ -1,4 +1,7 @@
 // The filters' calls with what they answer copied out, as `harness` exports them.
+
+#![tactic(auto)]
+
 ghost use Rattle.std.specs.Prelude.{◌≡◌, length};
 ghost use Rattle.filter_format.specs.Undo.{filtered};
 ghost use Rattle.filter_format.specs.Encode.{out_after};

@@ -1,2 +1,5 @@
 // The lines that the programs print, into a lent buffer at a running place.
+
+#![tactic(auto)]
+
 pub mod inner;

@@ -1,4 +1,7 @@
 // Reads a file from standard input, 65,536 bytes at most, and prints its listing.
+
+#![tactic(auto)]
+
 use libc::STDIN_FILENO;
 use printing::print_text;
 

@@ -1,4 +1,7 @@
 // What the lister prints of each file that is named, one after another: many stored runs in one.
+
+#![tactic(auto)]
+
 use libc::STDOUT_FILENO;
 use printing::print_text;
 

@@ -1,4 +1,7 @@
 // The listing of a file, into a lent buffer.
+
+#![tactic(auto)]
+
 ghost use Rattle.std.specs.Prelude.{◌≡◌, not, ◌++◌, ◌+◌, ◌-◌, ◌^◌, ◌<◌, ltb, length, replicate};
 ghost use Rattle.octets.specs.Parts.{put_at};
 ghost use Rattle.answers.specs.declared.Answer.TheVariants.{Accepted};
@@ -69,7 +72,7 @@ fn after_view_line(file: &[u8], view: ReadView, position: usize, room: usize) ->
 }
 
 // A read's view, and the boundary after it.
-#[derive(Drop)]
+#[derive(Clone, Copy)]
 struct Turn {
     view: ReadView,
     after: Boundary,

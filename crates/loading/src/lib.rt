@@ -1,11 +1,14 @@
 // A file that a program reads.
+
+#![tactic(auto)]
+
 ghost use Rattle.loading.specs.Loading.{Fits};
 
 use libc::STDOUT_FILENO;
 use printing::print_text;
 
 // A file that was read, with its length; or one that was not, and why is printed.
-#[derive(Drop)]
+#[derive(Clone, Copy)]
 pub enum Loaded {
     Bytes(usize),
     Nothing,

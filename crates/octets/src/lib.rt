@@ -1,4 +1,7 @@
 // Numbers, comparisons and scans in byte slices, and the least and the greatest of two numbers.
+
+#![tactic(auto)]
+
 ghost use Rattle.std.specs.Prelude.{◌≡◌, ◌<◌, min, max};
 ghost use Rattle.octets.specs.Parts.{whole_part};
 ghost use Rattle.octets.specs.Scans.{passes, fails};
@@ -6,7 +9,7 @@ ghost use Rattle.octets.specs.Scans.{passes, fails};
 pub mod inner;
 
 // What the bytes of a stretch are tested for.
-#[derive(Drop)]
+#[derive(Clone, Copy)]
 pub enum ByteTest {
     FlowCharacter,
     NameByte,

@@ -1,4 +1,7 @@
 // A text as the programs print it.
+
+#![tactic(auto)]
+
 use answers::Answer;
 use libc::STDOUT_FILENO;
 use lines::inner::write_refusal;

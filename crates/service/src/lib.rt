@@ -1,6 +1,9 @@
 // Document 01's host: "A C service calls the whole-file test and the single correction on numbers and byte slices."
 // `include/sffstore.h` declares them to C. `Tested` and `Corrected` are equations: number, place, length and buffer
 // are each what a definition gives.
+
+#![tactic(auto)]
+
 ghost use Rattle.service_calls.specs.Outs.{Tested, Corrected};
 
 use service_calls::{correct_out, test_out};

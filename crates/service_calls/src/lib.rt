@@ -1,5 +1,8 @@
 // The two calls that a C host makes, with what they answer copied out as numbers: `service` exports them, and `harness`
 // does for the tests.
+
+#![tactic(auto)]
+
 ghost use Rattle.service_calls.specs.Outs.{Tested, Corrected};
 
 use answers::{number_of, place_of};

@@ -1,4 +1,7 @@
 // A read's clips: what they may hold, and the insert that they leave.
+
+#![tactic(auto)]
+
 ghost use Rattle.std.specs.Prelude.{◌≡◌};
 ghost use Rattle.sff_format.specs.Insert.{first_base, right_end, last_base};
 

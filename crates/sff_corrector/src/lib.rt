@@ -1,5 +1,8 @@
 // Corrections of a file in place: by one record, and by a list of them. All reasons to refuse a record are judged
 // before it changes a byte.
+
+#![tactic(auto)]
+
 ghost use Rattle.std.specs.Prelude.{◌≡◌, ◌+◌, ◌-◌, ◌*◌, ◌≤◌, ◌<◌, length};
 ghost use Rattle.octets.specs.Parts.{part};
 ghost use Rattle.answers.specs.declared.Answer.TheVariants.{Accepted};
@@ -22,14 +25,14 @@ use sff_record::inner::record_fields;
 use sff_record::record_test;
 
 // What came of a record: the file's length afterwards, with the position and the place of its read, or the refusal.
-#[derive(Drop)]
+#[derive(Clone, Copy)]
 enum Carried {
     Out(usize, usize, usize),
     Stopped(u8, usize),
 }
 
 // Where the walk to a read starts: at the header's end, or at a read whose place is known.
-#[derive(Drop)]
+#[derive(Clone, Copy)]
 enum Start {
     Header,
     Known(Mark),

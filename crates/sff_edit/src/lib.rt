@@ -1,2 +1,5 @@
 // Edits of a file in place.
+
+#![tactic(auto)]
+
 pub mod inner;

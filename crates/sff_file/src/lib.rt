@@ -1,4 +1,7 @@
 // The whole-file test. It only reads the lent file.
+
+#![tactic(auto)]
+
 ghost use Rattle.std.specs.Prelude.{◌≡◌, true, false, ◌≤◌, length};
 ghost use Rattle.answers.specs.declared.Answer.TheVariants.{Accepted};
 ghost use Rattle.sff_format.specs.HeaderTest.{header_test, read_count, header_length};

@@ -46,7 +46,7 @@ pub fn find(file: &[u8], position: usize) -> usize
 }
 
 // A read whose place is known: its position, and where it starts.
-#[derive(Drop)]
+#[derive(Clone, Copy)]
 pub struct Mark {
     pub position: usize,
     pub place: usize,
@@ -81,7 +81,7 @@ pub fn view_of(file: &[u8], position: usize) -> ReadView
 }
 
 // A read's view, and the boundary after it.
-#[derive(Drop)]
+#[derive(Clone, Copy)]
 pub struct Turn {
     pub view: ReadView,
     pub after: Boundary,

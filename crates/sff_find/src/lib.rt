@@ -1,4 +1,7 @@
 // A read by its position.
+
+#![tactic(auto)]
+
 ghost use Rattle.std.specs.Prelude.{◌≡◌};
 ghost use Rattle.sff_format.specs.Position.{position_test};
 

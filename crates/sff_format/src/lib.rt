@@ -1,22 +1,25 @@
 // The types that the definitions and the code share. There is no function here.
+
+#![tactic(auto)]
+
 use answers::Answer;
 
 // Bytes of a file, or entries of a list: the place of the first, and how many.
-#[derive(Drop)]
+#[derive(Clone, Copy)]
 pub struct Span {
     pub at: usize,
     pub size: usize,
 }
 
 // A boundary of a file: its place, and whether the index is passed there.
-#[derive(Drop)]
+#[derive(Clone, Copy)]
 pub struct Boundary {
     pub place: usize,
     pub passed: bool,
 }
 
 // What a step says of a read: its place, where its contents lie, and its clips.
-#[derive(Drop)]
+#[derive(Clone, Copy)]
 pub struct ReadView {
     pub place: usize,
     pub name: Span,
@@ -31,7 +34,7 @@ pub struct ReadView {
 }
 
 // The clips of a read that is to be written, in file order.
-#[derive(Drop)]
+#[derive(Clone, Copy)]
 pub struct Clips {
     pub quality_left: u16,
     pub quality_right: u16,
@@ -40,7 +43,7 @@ pub struct Clips {
 }
 
 // What a writer answers: its refusal or none, and the file's length afterwards.
-#[derive(Drop)]
+#[derive(Clone, Copy)]
 pub struct Outcome {
     pub answer: Answer,
     pub length: usize,

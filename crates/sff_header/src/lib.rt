@@ -1,5 +1,8 @@
 // The header's tests, its flow and key characters, and what its two index fields mean. `bad_index_length` alone decides
 // which lengths an index may have, and `index_size` alone the room that it takes.
+
+#![tactic(auto)]
+
 ghost use Rattle.std.specs.Prelude.{◌≡◌, ◌+◌, ◌≤◌, length};
 ghost use Rattle.octets.specs.Parts.{up8};
 ghost use Rattle.sff_format.specs.Rules.{bad_index_length, bad_index};
@@ -14,7 +17,7 @@ use octets::inner::{first_not, get32, up8};
 use octets::{ByteTest, whole_part};
 
 // The fields of the common header that differ from file to file.
-#[derive(Drop)]
+#[derive(Clone, Copy)]
 pub struct Header {
     pub index_offset: usize,
     pub index_length: usize,

@@ -1,5 +1,8 @@
 // The insert of a read by its position. Where a call is refused, `sff_find::position_test` on the same inputs gives the
 // number.
+
+#![tactic(auto)]
+
 ghost use Rattle.std.specs.Prelude.{◌≡◌};
 ghost use Rattle.sff_format.specs.Position.{file_insert, file_first, file_last};
 
@@ -10,7 +13,7 @@ use sff_find::position_test;
 use sff_walk::BasePosition;
 
 // The first and the last base of an insert, which is empty where the last comes before the first.
-#[derive(Drop)]
+#[derive(Clone, Copy)]
 pub struct InsertEnds {
     pub first: BasePosition,
     pub last: BasePosition,

@@ -15,7 +15,7 @@ use sff_walk::BasePosition;
 use sff_walk::inner::bases_test;
 
 // The fields of a read's header section behind the two lengths.
-#[derive(Drop)]
+#[derive(Clone, Copy)]
 struct ReadFields {
     bases: usize,
     quality_left: BasePosition,

@@ -1,2 +1,5 @@
 // A read's tests, where it ends and what it says.
+
+#![tactic(auto)]
+
 pub mod inner;

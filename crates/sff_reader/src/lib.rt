@@ -1,4 +1,7 @@
 // "Reading on": a reader's state by value, moved by one read.
+
+#![tactic(auto)]
+
 ghost use Rattle.std.specs.Prelude.{◌≡◌, ◌+◌, ◌≤◌, ◌<◌, length};
 ghost use Rattle.answers.specs.declared.Answer.TheVariants.{Accepted};
 ghost use Rattle.sff_format.specs.HeaderTest.{header_test};
@@ -15,7 +18,7 @@ use sff_header::{Header, header_test};
 use sff_read::inner::{read_test, read_view};
 
 // A byte place, the reads passed, and whether the index is passed. A caller may put in any values.
-#[derive(Drop)]
+#[derive(Clone, Copy)]
 pub struct Reader {
     pub place: usize,
     pub passed_reads: usize,
@@ -23,7 +26,7 @@ pub struct Reader {
 }
 
 // The read found and the reader after it; or document 01's number and place, and the reader unmoved.
-#[derive(Drop)]
+#[derive(Clone, Copy)]
 pub enum Step {
     Found(ReadView, Reader),
     Stopped(u8, usize, Reader),

@@ -1,4 +1,7 @@
 // A correction record, judged by itself: its one refusal is 20 at place 0.
+
+#![tactic(auto)]
+
 ghost use Rattle.std.specs.Prelude.{◌≡◌, ◌+◌, ◌≤◌, length};
 ghost use Rattle.correction_format.specs.Record.{name_field_test, unused_test, new_clips_test, new_name_test, record_test};
 

@@ -9,7 +9,7 @@ use octets::inner::get16;
 use octets::{greatest32, least32};
 
 // The whole numbers that a summary is made of. 32 bits hold the sum of 65,535 values, and are exactly an f64.
-#[derive(Drop)]
+#[derive(Clone, Copy)]
 struct Totals {
     most: u32,
     least: u32,

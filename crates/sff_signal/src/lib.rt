@@ -1,4 +1,7 @@
 // The signal summary of a read by its position.
+
+#![tactic(auto)]
+
 ghost use Rattle.std.specs.Prelude.{◌≡◌};
 ghost use Rattle.sff_format.specs.Position.{signal_test};
 ghost use Rattle.sff_signal.specs.Signal.{file_signal};
@@ -12,7 +15,7 @@ use sff_find::position_test;
 use sff_header::inner::header_fields;
 
 // The strongest and the weakest signal of a read's flows, and the mean.
-#[derive(Drop)]
+#[derive(Clone, Copy)]
 pub struct Summary {
     pub strongest: f64,
     pub weakest: f64,

@@ -1,5 +1,8 @@
 // What a step says of a read, as parts of the lent file. A view that no step gave may name bytes outside of the file:
 // its part is then the file's empty front, and `view_test` gives the number and the place.
+
+#![tactic(auto)]
+
 ghost use Rattle.std.specs.Prelude.{◌≡◌};
 ghost use Rattle.answers.specs.Answer.{when, ◌then◌};
 ghost use Rattle.sff_format.specs.View.{bytes_in, insert_in, outside, insert_outside, view_test};

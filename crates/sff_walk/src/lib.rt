@@ -1,4 +1,7 @@
 // Base and flow positions, the flow walk, and the test of bases.
+
+#![tactic(auto)]
+
 ghost use Rattle.std.specs.Prelude.{◌≡◌, ◌+◌, ◌<◌};
 ghost use Rattle.sff_format.specs.Rules.{is_flow};
 
@@ -9,11 +12,11 @@ pub mod inner;
 // Positions over a read's bases and over a file's flows. Both count from 1; neither is ever made from the other.
 
 // A base of a read; 0 is before the first, and as a clip "not computed".
-#[derive(Drop)]
+#[derive(Clone, Copy)]
 pub struct BasePosition(pub usize);
 
 // A flow of a file; 0 is before the first.
-#[derive(Drop)]
+#[derive(Clone, Copy)]
 pub struct FlowPosition(pub usize);
 
 impl BasePosition {

@@ -1,5 +1,8 @@
 // New files, and reads appended to a file, in a lent buffer. All reasons to refuse are judged before the first byte is
 // written.
+
+#![tactic(auto)]
+
 ghost use Rattle.std.specs.Prelude.{◌≡◌, ◌<◌, length};
 ghost use Rattle.answers.specs.Answer.{zero_place};
 ghost use Rattle.sff_format.specs.ReadTest.{clip_test};

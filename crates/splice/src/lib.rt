@@ -1,2 +1,5 @@
 // A stretch of a file in a buffer replaced in place.
+
+#![tactic(auto)]
+
 pub mod inner;

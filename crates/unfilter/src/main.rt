@@ -1,4 +1,7 @@
 // Reads a filtered block from standard input, 65,536 bytes at most, and writes its data, or the line of its refusal.
+
+#![tactic(auto)]
+
 use libc::STDIN_FILENO;
 use printing::print_text;
 

@@ -1,4 +1,7 @@
 // What `unfilter` writes of each block that is named, and a line's end, one after another: many stored runs in one.
+
+#![tactic(auto)]
+
 use libc::STDOUT_FILENO;
 use printing::print_text;
 

@@ -1,4 +1,7 @@
 // What `unfilter` prints of a block, into the two lent buffers in which the block is undone.
+
+#![tactic(auto)]
+
 ghost use Rattle.std.specs.Prelude.{◌≡◌, length, replicate};
 ghost use Rattle.octets.specs.Parts.{filled};
 ghost use Rattle.filter_format.specs.Undo.{room_of, second_after, undo};

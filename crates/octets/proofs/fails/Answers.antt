@@ -1,4 +1,5 @@
 use Prim.Native.Nat.{◌-◌}
+use Rattle.octets.proofs.Every.{told_more}
 use Rattle.std.proofs.Common.{rules}
 use Rattle.octets.proofs.fails.Goals as goal
 

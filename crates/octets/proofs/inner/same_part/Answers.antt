@@ -1,4 +1,5 @@
 use Prim.Native.Nat.{◌-◌}
+use Rattle.octets.proofs.Same.{comparing}
 use Rattle.octets.proofs.inner.same_part.Goals as goal
 
 pub returns-then-bytes-at : goal.returns-then-bytes-at

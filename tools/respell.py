@@ -94,6 +94,9 @@ def main(argv):
         text = open(f, encoding="utf-8").read()
         table = calls if f.startswith("crates/claims/") else turned
         table = table | {n: s for (g, n), s in VARIABLES.items() if g == f}
+        if f.endswith(".rt"):
+            # functions keep their names
+            table = {n: s for n, s in table.items() if re.search("-|[a-z][A-Z]", n)}
         if f in documents:
             chosen = {n: s for n, s in turned.items() if re.search("[a-z][A-Z]", n)}
             new = re.sub(r"`[^`\n]+`", lambda m: TOKEN.sub(lambda t: turned.get(t.group(0), t.group(0)), m.group(0)), text) if f != "tests/names" else text

@@ -137,7 +137,7 @@ pub fn step_out(
     step.number
 }
 
-fn put_front_lem(out: &mut [u8], bytes: &[u8])
+fn put_front(out: &mut [u8], bytes: &[u8])
     ensures { out.new ≡ put_front bytes.now out.old }
 {
     let n = bytes.len();
@@ -168,7 +168,7 @@ pub fn flow_characters_out(file: &[u8], out: &mut [u8], place: &mut u64, made: &
     let flows = flow_characters(file);
     *place = place_of(answer);
     *made = flows.len() as u64;
-    put_front_lem(out, flows);
+    put_front(out, flows);
     number_of(answer)
 }
 
@@ -180,7 +180,7 @@ pub fn key_out(file: &[u8], out: &mut [u8], place: &mut u64, made: &mut u64) -> 
     let characters = key(file);
     *place = place_of(answer);
     *made = characters.len() as u64;
-    put_front_lem(out, characters);
+    put_front(out, characters);
     number_of(answer)
 }
 
@@ -251,7 +251,7 @@ pub fn insert_out(
     *first = ends.first.0 as u64;
     *last = ends.last.0 as u64;
     *made = bases.len() as u64;
-    put_front_lem(out, bases);
+    put_front(out, bases);
     number_of(answer)
 }
 

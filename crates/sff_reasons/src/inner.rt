@@ -120,7 +120,7 @@ pub fn name_taken(file: &[u8], fields: Fields, record: &[u8]) -> bool
 }
 
 // 26: the file with the new name does not fit into a buffer of `room` bytes, into which it fits as it is.
-pub fn no_room_lem(file: &[u8], room: usize, place: usize, fields: Fields, record: &[u8]) -> bool
+pub fn no_room(file: &[u8], room: usize, place: usize, fields: Fields, record: &[u8]) -> bool
     requires read_at_position { ReadAtPosition file.now «record».now fields }
     requires place_value { place ≡ read_place file.now fields.position }
     requires file_len_bound { length file.now ≤ room }
@@ -154,7 +154,7 @@ pub fn reason(file: &[u8], room: usize, place: usize, fields: Fields, record: &[
     if name_taken(file, fields, record) {
         return Answer::Refused(24, 0);
     }
-    if no_room_lem(file, room, place, fields, record) {
+    if no_room(file, room, place, fields, record) {
         return Answer::Refused(26, 0);
     }
     Answer::Accepted

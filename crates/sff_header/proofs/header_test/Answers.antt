@@ -2,7 +2,7 @@
 -- last one's answer. `header_tested` says them of the length that stands in the fields.
 use Rattle.answers.proofs.Chains.{refusal, onward}
 use Rattle.sff_format.specs.HeaderTest.{header_test}
-use Rattle.sff_header.proofs.Fields.{header_tested}
+use Rattle.sff_header.proofs.Fields.{length-good, header_tested}
 use Rattle.sff_header.proofs.header_test.Goals as goal
 
 pub returns-then-file-lt31 : goal.returns-then-file-lt31
@@ -17,3 +17,8 @@ returns-then-file-header c = search (refusal, header_tested)
 
 pub returns : goal.returns
 returns c = search (onward, header_tested)
+
+pub characters_test-requires-clause-length_value :
+    goal.characters_test-requires-clause-length_value
+characters_test-requires-clause-length_value c =
+    length-good _ _ c.header_fields-header.ensures.value c.fixed_test-fixed.ensures c.in-Accepted.is

@@ -2,11 +2,11 @@
 -- the one that its increment leads to. Assumes nothing.
 use Prim.Native.Nat.{ℕ, suc, ◌+◌, ◌-◌, ◌≤◌, ◌<◌}
 use mathlib.Core.Path.{◌≡◌, refl, sym, ap, ◌∙◌}
-use mathlib.Core.Bool.{Bool, true, false, not, ◌&&◌}
+use mathlib.Core.Bool.{Bool, true, false, ◌&&◌}
 use mathlib.Core.List.{List}
 use native.Mathlib.Omega.{arith}
 use borrow.Author.Rules.{rules}
-use borrow.Author.Tests.{not-true, not-false, leb-true}
+use borrow.Author.Tests.{leb-true}
 use lib.Dec.{leb}
 use lib.ListN.{length, drop, get_or}
 use Rattle.answers.specs.declared.Answer.TheVariants.{Accepted, Refused}
@@ -44,12 +44,12 @@ module _ {F f₀ k₀ : ℕ} {xs : List ℕ} {k f : ℕ} (w : Walked F f₀ k₀
     inside : k - 1 < length xs
     inside = omega (arith, w.low)
 
-    pub walked_stop : not t ≡ true → k - 1 ≡ k₀ - 1 + walked_count F f₀ (drop (k₀ - 1) xs)
-    walked_stop g = let s = walk_stop F f (k - 1) x xs e inside (sym i ∙ not-true t g) in omega (arith, w.is, s)
+    pub walked_stop : t ≡ false → k - 1 ≡ k₀ - 1 + walked_count F f₀ (drop (k₀ - 1) xs)
+    walked_stop g = let s = walk_stop F f (k - 1) x xs e inside (sym i ∙ g) in omega (arith, w.is, s)
 
-    pub walked_more : not t ≡ false → {k' : ℕ} → k' ≡ k + 1 → Walked F f₀ k₀ xs k' x
+    pub walked_more : t ≡ true → {k' : ℕ} → k' ≡ k + 1 → Walked F f₀ k₀ xs k' x
     walked_more g {k'} m =
-        let d : is_flow F x ≡ true = sym i ∙ not-false t g in
+        let d : is_flow F x ≡ true = sym i ∙ g in
         let q : suc (k - 1) ≡ k' - 1 = omega (arith, w.low) in
         let s : walked_count F f (drop (k - 1) xs) ≡ suc (walked_count F x (drop (k' - 1) xs)) = rw q at (walk_on F f (k - 1) x xs e inside d) in
         record { low = omega arith; high = omega arith; reached = (flow_in F x d).1; is = omega (arith, w.is, s, w.low) }
@@ -97,22 +97,22 @@ module _ {characters xs ys : List ℕ} {k f : ℕ} (w : Matched characters xs ys
         matched_count characters f (drop (k - 1) xs) (drop (k - 1) ys) ≡ 0
     calls_none = calls_stop (length characters) f (k - 1) x xs e base_in characters ys (omega (arith, base_in, w.counts))
 
-    pub stopped_walk : not t ≡ true → {stop : ℕ} → stop ≡ k - 1 → Stopped characters xs ys k f x stop
-    stopped_walk g s = stopped_here s (λ l. e) (calls_none (rw (sym i ∙ not-true t g)))
+    pub stopped_walk : t ≡ false → {stop : ℕ} → stop ≡ k - 1 → Stopped characters xs ys k f x stop
+    stopped_walk g s = stopped_here s (λ l. e) (calls_none (rw (sym i ∙ g)))
 
     -- u is what the test of the base gave
-    module _ (g : not t ≡ false) {u : Bool} (j : u ≡ base_matches characters x (get_or ys (k - 1) 0)) where
+    module _ (g : t ≡ true) {u : Bool} (j : u ≡ base_matches characters x (get_or ys (k - 1) 0)) where
       both : {v : Bool} → u ≡ v → (is_flow (length characters) x && base_matches characters x (get_or ys (k - 1) 0)) ≡ v
-      both d = rw (sym i ∙ not-false t g) (sym j ∙ d)
+      both d = rw (sym i ∙ g) (sym j ∙ d)
 
-      pub stopped_base : not u ≡ true → {stop : ℕ} → stop ≡ k - 1 → Stopped characters xs ys k f x stop
-      stopped_base a s = stopped_here s (λ l. e) (calls_none (both (not-true u a)))
+      pub stopped_base : u ≡ false → {stop : ℕ} → stop ≡ k - 1 → Stopped characters xs ys k f x stop
+      stopped_base a s = stopped_here s (λ l. e) (calls_none (both a))
 
-      pub matched_more : not u ≡ false → {k' : ℕ} → k' ≡ k + 1 → Matched characters xs ys k' x
+      pub matched_more : u ≡ true → {k' : ℕ} → k' ≡ k + 1 → Matched characters xs ys k' x
       matched_more a {k'} m =
           let q : suc (k - 1) ≡ k' - 1 = omega (arith, w.walked.low) in
           let z : matched_count characters f (drop (k - 1) xs) (drop (k - 1) ys) ≡ suc (matched_count characters x (drop (k' - 1) xs) (drop (k' - 1) ys)) =
-          rw q at (calls_on (length characters) f (k - 1) x xs e base_in characters ys (omega (arith, base_in, w.counts)) (both (not-false u a))) in
+          rw q at (calls_on (length characters) f (k - 1) x xs e base_in characters ys (omega (arith, base_in, w.counts)) (both a)) in
           record { counts = w.counts; walked = walked_more w.walked h e i g m; calls_is = omega (arith, w.calls_is, z, w.walked.low) }
 
 -- What the place means.
@@ -133,13 +133,13 @@ module _ {characters xs ys : List ℕ} {k f x stop : ℕ} (w : Stopped character
 
     -- t is what the test of x gave
     module _ {t : Bool} (i : t ≡ is_flow (length characters) x) where
-      pub answer_here : not t ≡ true → Refused 10 stop ≡ bases_test characters xs ys
+      pub answer_here : t ≡ false → Refused 10 stop ≡ bases_test characters xs ys
       unfolding bases_test
       answer_here g =
           let v = whole (walked_stop w.walked at_base (w.flow at_base) i g) in
           stops _ _ _ (w.place ∙ sym v) _ (omega (arith, at_base, w.place, w.walked.low))
 
-      pub walked_past : not t ≡ false → {k' : ℕ} → k' ≡ k + 1 → Walked (length characters) 0 1 xs k' x
+      pub walked_past : t ≡ true → {k' : ℕ} → k' ≡ k + 1 → Walked (length characters) 0 1 xs k' x
       walked_past g = walked_more w.walked at_base (w.flow at_base) i g
 
     -- past the place, walk is where the rest of the walk stops

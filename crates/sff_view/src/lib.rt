@@ -13,6 +13,8 @@ use sff_clips::inner::insert_span;
 use sff_clips::{first_base, last_base};
 use sff_format::{ReadView, Span};
 
+pub mod inner;
+
 fn bytes_in(file: &[u8], x: Span) -> &[u8]
     ensures { result.now ≡ bytes_in file.now x }
 {

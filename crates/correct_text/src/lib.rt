@@ -4,8 +4,7 @@
 
 ghost use Rattle.std.specs.Prelude.{◌≡◌, ◌++◌, length, replicate};
 ghost use Rattle.octets.specs.Parts.{put_at};
-ghost use Rattle.io.specs.Counts.{IsPrefixLen};
-ghost use Rattle.text.specs.Writing.{fitted, written};
+ghost use Rattle.text.specs.Writing.{IsPrefixLen, fitted, written};
 ghost use Rattle.lines.specs.Lines.{refusal_line, too_long, answer_line};
 ghost use Rattle.correct_text.specs.Report.{reported, is_written};
 

@@ -10,9 +10,8 @@ ghost use Rattle.sff_format.specs.FileTest.{file_test};
 ghost use Rattle.sff_format.specs.Parse.{parse};
 ghost use Rattle.sff_format.specs.View.{view_at};
 ghost use Rattle.sff_format.specs.Walk.{read_start, next_boundary, Walk};
-ghost use Rattle.io.specs.Counts.{IsPrefixLen};
 ghost use Rattle.sff_header.specs.Header.{header_of, FieldsFit};
-ghost use Rattle.text.specs.Writing.{Room, fitted, written};
+ghost use Rattle.text.specs.Writing.{IsPrefixLen, Room, fitted, written};
 ghost use Rattle.lines.specs.Lines.{header_line};
 ghost use Rattle.lister_text.specs.Listing.{view_line, lines_from, file_lines, listing, enough, printed};
 

@@ -1,6 +1,6 @@
 -- A word of text, the room that a piece of text takes, and a text that is measured. Assumes nothing: these are
 -- definitions.
-use Rattle.std.specs.Prelude.{ℕ, ◌+◌, ◌≤◌, cond, List, [], ◌∷◌, length, eqb, ltb}
+use Rattle.std.specs.Prelude.{ℕ, ◌≡◌, ◌+◌, ◌≤◌, cond, List, [], ◌∷◌, length, take, eqb, ltb}
 use Rattle.answers.specs.declared.Answer.{Answer}
 use Rattle.answers.specs.Answer.{when, accepted_or}
 use Rattle.text.specs.declared.Written.{Written}
@@ -29,6 +29,10 @@ fitted room xs = tested (when (ltb room (length xs)) 26 0) xs
 -- what such a call answers
 abbrev pub written : Fitted → Written
 written result = record { answer = result.answer; length = length result.text }
+
+-- n bytes of xs may be lent from its front, as `&xs[..n]`, and n is their number
+abbrev pub IsPrefixLen : ℕ → List ℕ → Type 0
+IsPrefixLen n xs = (n ≤ length xs) × (n ≡ length (take n xs))
 
 -- the number that it may answer with, beside 0
 abbrev pub text_numbers : List ℕ

@@ -5,8 +5,7 @@
 ghost use Rattle.std.specs.Prelude.{◌≡◌, length, replicate};
 ghost use Rattle.octets.specs.Parts.{filled};
 ghost use Rattle.filter_format.specs.Undo.{room_of, second_after, undo};
-ghost use Rattle.io.specs.Counts.{IsPrefixLen};
-ghost use Rattle.text.specs.Writing.{written};
+ghost use Rattle.text.specs.Writing.{IsPrefixLen, written};
 ghost use Rattle.lines.specs.Lines.{too_long};
 ghost use Rattle.unfilter_text.specs.Unfiltering.{text_of, printed_by, TextHeld};
 

@@ -1,0 +1,36 @@
+-- The tests stand in the definition's order: at each `return` those before it have passed and this one decides. Good
+-- counts bound the bases, as the tests of the clips and of the bases ask.
+use mathlib.Core.Path.{sym, ◌∙◌}
+use Rattle.answers.proofs.Chains.{refusal, onward}
+use Rattle.sff_format.specs.Writing.{given_test}
+use Rattle.sff_format.proofs.Given.{counts_ok}
+use Rattle.sff_writer.proofs.Reasons.{zero_place_told}
+use Rattle.sff_writer.proofs.given_test.Goals as goal
+
+pub returns-then-bad_counts : goal.returns-then-bad_counts
+unfolding given_test
+returns-then-bad_counts c = search refusal
+
+pub returns-then-name-gt65512 : goal.returns-then-name-gt65512
+unfolding given_test
+returns-then-name-gt65512 c = search refusal
+
+pub returns-then-fails : goal.returns-then-fails
+unfolding given_test
+returns-then-fails c = search refusal
+
+pub clips_test-clipped-requires : goal.clips_test-clipped-requires
+clips_test-clipped-requires c = (counts_ok _ _ _ _ _ (sym c.bad_counts.ensures ∙ c.if-bad_counts.false)).3
+
+pub returns-in_default : goal.returns-in_default
+unfolding given_test
+returns-in_default c = search refusal
+
+pub bases_test-requires : goal.bases_test-requires
+bases_test-requires c =
+    let good = counts_ok _ _ _ _ _ (sym c.bad_counts.ensures ∙ c.if-bad_counts.false) in
+    (c.requires, good.1, good.3)
+
+pub returns : goal.returns
+unfolding given_test
+returns c = search (onward, zero_place_told) depth 9

@@ -1,6 +1,7 @@
 -- A position that is refused has the ends of an insert without bases; one that is accepted has those of the read found
 -- there.
 use mathlib.Core.Path.{sym, ◌∙◌}
+use native.Mathlib.Omega.{arith}
 use Rattle.sff_format.proofs.Positions.{position-file, position-below, first_refused_lem, last_refused, first-view, last_view}
 use Rattle.sff_insert.proofs.insert_ends.Goals as goal
 
@@ -14,7 +15,7 @@ view_of-view-requires-clause-file_value c = position-file _ _ (sym c.position_te
 
 pub view_of-view-requires-clause-position_bound : goal.view_of-view-requires-clause-position_bound
 view_of-view-requires-clause-position_bound c =
-    position-below _ _ (sym c.position_test-test.ensures ∙ c.in-Accepted.is)
+    omega (arith, position-below _ _ (sym c.position_test-test.ensures ∙ c.in-Accepted.is))
 
 pub returns : goal.returns
 returns c =

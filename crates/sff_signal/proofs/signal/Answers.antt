@@ -1,6 +1,7 @@
 -- Refused, three zeros stand for the summary. Accepted, the read is there and has flows, so that its values lie in the
 -- file, and their summary is the read's.
 use mathlib.Core.Path.{sym, ◌∙◌}
+use native.Mathlib.Omega.{arith}
 use Rattle.octets.proofs.AllBytes.{bytes_of_lem}
 use Rattle.sff_format.proofs.Positions.{position-file, position-below, signal-position}
 use Rattle.sff_signal.proofs.Chosen.{signal_refused, signal-values, signal-made}
@@ -15,7 +16,7 @@ view_of-requires-clause-file_value c =
 
 pub view_of-requires-clause-position_bound : goal.view_of-requires-clause-position_bound
 view_of-requires-clause-position_bound c =
-    position-below _ _ (signal-position _ _ (sym c.signal_test-test.ensures ∙ c.in-Accepted.is))
+    omega (arith, position-below _ _ (signal-position _ _ (sym c.signal_test-test.ensures ∙ c.in-Accepted.is)))
 
 pub values_summary-requires : goal.values_summary-requires
 values_summary-requires c =

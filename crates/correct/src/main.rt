@@ -4,61 +4,79 @@
 #![tactic(auto)]
 
 use correction_format::ListOutcome;
-use libc::STDERR_FILENO;
-use loading::{Loaded, load_argument};
+use loading::{Loaded, argument, argument_count, file_name, load_argument, tell};
 use octets::whole_part;
 use printing::print_text;
+use std::fs::{File, OpenFile};
+use std::io;
+use std::io::Write;
+use std::rt::{Env, Files};
+
+fn fill(file: &mut (impl Write + OpenFile), bytes: &[u8]) -> io::Result<()> {
+    file.write_all(bytes)?;
+    file.sync_all()
+}
+
+// Writes a file that no file may have the name of yet; it is taken away again if that fails.
+fn write_new(rt: &impl Files, path: &[u8], bytes: &[u8]) -> io::Result<()> {
+    let name = file_name(path)?;
+    let mut file = File::create_new(rt, name)?;
+    let filled = fill(&mut file, bytes);
+    if filled.is_err() {
+        let _ = rt.remove_file(name);
+    }
+    filled
+}
 
 // Writes a file under the name that an argument gives, which no file may have yet, and answers whether it is there.
-fn save(i: usize, bytes: &[u8]) -> bool {
-    let mut path = io::buffer();
-    let n = os::arg(i, &mut path);
-    let fd = os::create(&path[..n]);
-    if fd < 0 {
-        os::fail(&path[..n]);
-        return false;
+fn save(rt: &(impl Env + Files + Eprint), i: usize, bytes: &[u8]) -> bool {
+    let mut path = [0u8; 4096];
+    let n = argument(rt, i, &mut path);
+    match write_new(rt, &path[..n], bytes) {
+        Ok(()) => true,
+        Err(why) => {
+            tell(rt, &path[..n], why);
+            false
+        }
     }
-    let whole = io::write_all(fd, bytes);
-    if whole & (libc::close(fd) == 0) {
-        return true;
-    }
-    os::fail(&path[..n]);
-    os::unlink(&path[..n]);
-    false
 }
 
 // Prints the answer of a run, once the new file that it asks for is there: no answer is printed of a file that could
 // not be written.
-fn deliver(outcome: ListOutcome, buffer: &[u8]) {
+fn deliver(
+    rt: &(impl Env + Files + Print + Eprint),
+    outcome: ListOutcome,
+    buffer: &[u8],
+) -> io::Result<()> {
     if correct_text::is_written(outcome) {
-        if !save(3, whole_part(buffer, 0, outcome.length)) {
-            return;
+        if !save(rt, 3, whole_part(buffer, 0, outcome.length)) {
+            return Ok(());
         }
     }
     let mut text = correct_text::report_room();
     let written = correct_text::report(outcome, &mut text);
-    print_text(written, &text);
+    print_text(rt, written, &text)
 }
 
-fn correct() {
-    let mut buffer = io::large_buffer();
-    let file = load_argument(1, &mut buffer);
+fn correct(rt: &(impl Env + Files + Print + Eprint)) -> io::Result<()> {
+    let mut buffer = [0u8; 65536];
+    let file = load_argument(rt, 1, &mut buffer)?;
     let Loaded::Bytes(n) = file else {
-        return;
+        return Ok(());
     };
-    let mut list = io::large_buffer();
-    let records = load_argument(2, &mut list);
+    let mut list = [0u8; 65536];
+    let records = load_argument(rt, 2, &mut list)?;
     let Loaded::Bytes(m) = records else {
-        return;
+        return Ok(());
     };
     let outcome = sff_corrector::correct_list(&mut buffer, n, whole_part(&list, 0, m));
-    deliver(outcome, &buffer);
+    deliver(rt, outcome, &buffer)
 }
 
-fn main() {
-    if os::arg_count() == 4 {
-        correct();
+fn main(rt: HostRuntime) -> io::Result<()> {
+    if argument_count(&rt) == 4 {
+        correct(&rt)
     } else {
-        io::write_all(STDERR_FILENO, b"usage: correct FILE RECORDS NEW-FILE\n");
+        eprintln!(rt; "usage: correct FILE RECORDS NEW-FILE")
     }
 }

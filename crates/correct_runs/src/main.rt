@@ -4,52 +4,57 @@
 #![tactic(auto)]
 
 use correction_format::ListOutcome;
-use libc::STDOUT_FILENO;
-use loading::{Loaded, load_argument};
+use loading::{Loaded, argument, argument_count, load_argument};
 use octets::whole_part;
 use printing::print_text;
+use std::io;
+use std::rt::{Env, Files};
 
-fn print_argument(i: usize, end: &[u8]) {
-    let mut word = io::buffer();
-    let n = os::arg(i, &mut word);
-    io::write_all(STDOUT_FILENO, &word[..n]);
-    io::write_all(STDOUT_FILENO, end);
+fn print_argument(rt: &(impl Env + Print), i: usize, end: &[u8]) -> io::Result<()> {
+    let mut word = [0u8; 4096];
+    let n = argument(rt, i, &mut word);
+    rt.write_all(&word[..n])?;
+    rt.write_all(end)
 }
 
 // Prints the answer, and the listing of the file that `correct` would write.
-fn print_outcome(outcome: ListOutcome, buffer: &[u8]) {
+fn print_outcome(rt: &impl Print, outcome: ListOutcome, buffer: &[u8]) -> io::Result<()> {
     let mut text = correct_text::report_room();
     let written = correct_text::report(outcome, &mut text);
-    print_text(written, &text);
+    print_text(rt, written, &text)?;
     if correct_text::is_written(outcome) {
         let mut lines = lister_text::print_room();
         let listed = lister_text::print(whole_part(buffer, 0, outcome.length), &mut lines);
-        print_text(listed, &lines);
+        print_text(rt, listed, &lines)?;
     }
+    Ok(())
 }
 
-fn correct(file: usize, records: usize) {
-    print_argument(file, b" ");
-    print_argument(records, b":\n");
-    let mut buffer = io::large_buffer();
-    let loaded = load_argument(file, &mut buffer);
+fn correct(
+    rt: &(impl Env + Files + Print + Eprint),
+    file: usize,
+    records: usize,
+) -> io::Result<()> {
+    print_argument(rt, file, b" ")?;
+    print_argument(rt, records, b":\n")?;
+    let mut buffer = [0u8; 65536];
+    let loaded = load_argument(rt, file, &mut buffer)?;
     let Loaded::Bytes(n) = loaded else {
-        return;
+        return Ok(());
     };
-    let mut list = io::large_buffer();
-    let listed = load_argument(records, &mut list);
+    let mut list = [0u8; 65536];
+    let listed = load_argument(rt, records, &mut list)?;
     let Loaded::Bytes(m) = listed else {
-        return;
+        return Ok(());
     };
     let outcome = sff_corrector::correct_list(&mut buffer, n, whole_part(&list, 0, m));
-    print_outcome(outcome, &buffer);
+    print_outcome(rt, outcome, &buffer)
 }
 
-fn main() {
-    let pairs = os::arg_count() / 2;
-    let mut i: usize = 0;
-    while i < pairs {
-        correct(2 * i + 1, 2 * i + 2);
-        i += 1;
+fn main(rt: HostRuntime) -> io::Result<()> {
+    let pairs = argument_count(&rt) / 2;
+    for i in 0..pairs {
+        correct(&rt, 2 * i + 1, 2 * i + 2)?;
     }
+    Ok(())
 }

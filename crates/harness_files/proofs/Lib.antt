@@ -1,3 +1,2 @@
 pub mod Clips
 pub mod Fronts
-pub mod Told

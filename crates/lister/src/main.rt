@@ -2,13 +2,14 @@
 
 #![tactic(auto)]
 
-use libc::STDIN_FILENO;
+use loading::read_input;
 use printing::print_text;
+use std::io;
 
-fn main() {
+fn main(rt: HostRuntime) -> io::Result<()> {
     let mut input = [0u8; 65537];
-    let n = io::read_full(STDIN_FILENO, &mut input);
+    let n = read_input(&rt, &mut input)?;
     let mut text = lister_text::print_room();
     let written = lister_text::print(&input[..n], &mut text);
-    print_text(written, &text);
+    print_text(&rt, written, &text)
 }

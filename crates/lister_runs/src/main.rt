@@ -2,32 +2,26 @@
 
 #![tactic(auto)]
 
-use libc::STDOUT_FILENO;
+use loading::{Loaded, argument_count, load_named};
+use octets::whole_part;
 use printing::print_text;
+use std::io;
+use std::rt::{Env, Files};
 
-fn print_file(i: usize) {
-    let mut path = io::buffer();
-    let n = os::arg(i, &mut path);
-    let fd = os::open_read(&path[..n]);
-    if fd < 0 {
-        os::fail(&path[..n]);
-        return;
-    }
+fn print_file(rt: &(impl Env + Files + Print + Eprint), i: usize) -> io::Result<()> {
     let mut input = [0u8; 65537];
-    let m = io::read_full(fd, &mut input);
-    libc::close(fd);
+    let file = load_named(rt, i, &mut input)?;
+    let Loaded::Bytes(n) = file else {
+        return Ok(());
+    };
     let mut text = lister_text::print_room();
-    let written = lister_text::print(&input[..m], &mut text);
-    io::write_all(STDOUT_FILENO, &path[..n]);
-    io::write_all(STDOUT_FILENO, b":\n");
-    print_text(written, &text);
+    let written = lister_text::print(whole_part(&input, 0, n), &mut text);
+    print_text(rt, written, &text)
 }
 
-fn main() {
-    let n = os::arg_count();
-    let mut i: usize = 1;
-    while i < n {
-        print_file(i);
-        i += 1;
+fn main(rt: HostRuntime) -> io::Result<()> {
+    for i in 1..argument_count(&rt) {
+        print_file(&rt, i)?;
     }
+    Ok(())
 }

@@ -12,6 +12,7 @@ use sff_walk::BasePosition;
 pub mod inner;
 
 // The last base that a right clip leaves: one that is not computed leaves them all.
+#[tactic(auto, unfolding(sff_format::specs::Insert::right_end))]
 fn right_end(bases: usize, clip: BasePosition) -> BasePosition
     ensures { result.0 ≡ right_end bases clip.0 }
 {

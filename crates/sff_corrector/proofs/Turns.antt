@@ -1,6 +1,6 @@
 -- One record after another: what a carried_out record leaves for the next, and the loop over a list. Assumes nothing.
 use Prim.Native.Nat.{ℕ, suc, ◌+◌, ◌-◌, ◌*◌, ◌/◌, ◌%◌, ◌≤◌, ◌<◌}
-use mathlib.Core.Path.{◌≡◌, refl, sym, ap, ◌∙◌}
+use mathlib.Core.Path.{◌≡◌, sym, ap, ◌∙◌}
 use mathlib.Core.Bool.{Bool, true}
 use mathlib.Core.List.{List}
 use native.Mathlib.Omega.{arith}
@@ -164,10 +164,6 @@ pub record ListInvariant (n : ℕ) (b₀ : List ℕ) (len₀ : ℕ) (l b : List 
   pub ready : AcceptedFront b len (known_at i p)
   pub is : turns (n - 1) 1 b₀ len₀ l ≡ turns (n - k) k b len l
 
-pub list_start : (n : ℕ) (b : List ℕ) (len : ℕ) (l : List ℕ) (i p : ℕ) → 1 ≤ n → 96 * n ≤ length l → AcceptedFront b len (known_at i p)
-    → ListInvariant n b len l b 1 len i p
-list_start n b len l i p h w s = record { low = h; whole = w; same = refl; ready = s; is = refl }
-
 -- what a run told so far
 told : {count : ℕ} {a : Answer} {len : ℕ} {b : List ℕ} {t : Run} → t ≡ ran count a len b
     → (record { count = count; answer = a; length = len } ≡ t.outcome) × (b ≡ t.buffer)
@@ -178,9 +174,6 @@ module _ {n : ℕ} {b₀ : List ℕ} {len₀ : ℕ} {l b : List ℕ} {k len i p 
       → (record { count = k; answer = Accepted; length = len } ≡ (turns (n - 1) 1 b₀ len₀ l).outcome) × (b ≡ (turns (n - 1) 1 b₀ len₀ l).buffer)
   unfolding turns
   list_done h = let z : n - k ≡ 0 = omega arith in told (g.is ∙ rw z)
-
-  pub list_room : k < n → 96 * k + 96 ≤ length l
-  list_room h = let w = g.whole in omega arith
 
   module _ (h : k < n) (v : Carried) {b' : List ℕ}
       (e : outcome_of len v ≡ correct_outcome b len (record_at k l)) (f : b' ≡ correct_buffer b len (record_at k l)) where

@@ -8,10 +8,11 @@ use mathlib.Core.List.{List, [], ◌∷◌, ◌++◌, append_assoc, append-nil}
 use native.Mathlib.Omega.{arith}
 use borrow.Author.Tests.{eq-eqb}
 use lib.ListN.{length, take, drop, length-append, length-take, length-drop}
-use lib.Seq.{length-take-le, take-length, take-take, take_at, drop_at}
+use lib.Seq.{length-take-le, take-take, take_at, drop_at}
 use Rattle.octets.specs.Parts.{part, put_at, filled, filled_front, spliced, up8}
 use Rattle.octets.specs.Numbers.{Bytes, number, bytes_of, fields, words, unit_bytes, units_at, words_at}
 use Rattle.octets.proofs.Lists.{length_put, put_over, put_next, length_part}
+use Rattle.octets.proofs.AllBytes.{bytes_take}
 use Rattle.octets.proofs.Digits.{length-bytes_of}
 use Rattle.octets.proofs.Inserts.{drop-rest}
 use Rattle.octets.proofs.Stands.{stands_read, units_stand, length_units, length_fields_lem, length-filled, field_filled, number-take}
@@ -71,11 +72,7 @@ pieces front x back =
     let e : up8 (16 + length x.name) - (16 + length x.name) ≡ name_room (length x.name) - length x.name = omega arith in
     rw (l, e) (simp (append_assoc, append-nil))
 
--- the field of four clips, put whole
-pub clips_put : (p : ℕ) (clips b : List ℕ) {v : List ℕ} → length clips ≡ 8 → v ≡ put_at (p + 8) (part 0 8 clips) b → v ≡ clipped_at p clips b
-clips_put p clips b l e = let w : part 0 8 clips ≡ clips = rw (← l) (take-length clips) in e ∙ ap (λ (xs : List ℕ). put_at (p + 8) xs b) w
-
--- it holds the clips that a record's fields say
+-- the field of four clips holds what a record's fields say
 clips_field : (x : Fields) (r : List ℕ) → FieldsOf x r → Bytes r → length r ≡ 96
     → part 8 8 r ≡ words (x.quality_left ∷ x.quality_right ∷ x.adapter_left ∷ x.adapter_right ∷ [])
 unfolding units_at
@@ -112,6 +109,13 @@ pub record ReadyToEdit (buffer : List ℕ) (len p : ℕ) (x : Fields) (r : List 
   pub fields_are : FieldsOf x r
   pub place_is : p ≡ read_place (take len buffer) x.position
   pub fine : reasons (length buffer) (asked x r) (parse (take len buffer)) ≡ Accepted
+
+-- the same from what `apply` is given
+pub ready : {buffer r : List ℕ} {len p : ℕ} {x : Fields} → Bytes buffer → len ≤ length buffer → file_test (take len buffer) ≡ Accepted
+    → record_test r ≡ Accepted → FieldsOf x r → p ≡ read_place (take len buffer) x.position
+    → reasons (length buffer) (asked x r) (parse (take len buffer)) ≡ Accepted → ReadyToEdit buffer len p x r
+ready {buffer = buffer} {len = len} z h e f o g n =
+    record { inside = h; bytes = bytes_take len buffer z; accepted = e; formed = f; fields_are = o; place_is = g; fine = n }
 
 module _ {buffer : List ℕ} {len p : ℕ} {x : Fields} {r : List ℕ} (s : ReadyToEdit buffer len p x r) where
   abbrev file : List ℕ

@@ -1,10 +1,10 @@
 -- A name looked for among all reads but one, from boundary to boundary. Assumes nothing.
 use Prim.Native.Nat.{ℕ, zero, suc, ◌+◌, ◌≤◌, ◌<◌}
-use mathlib.Core.Path.{◌≡◌, refl, sym, ◌∙◌}
+use mathlib.Core.Path.{◌≡◌, refl, sym, ap, ◌∙◌}
 use mathlib.Core.Bool.{Bool, true, false, not, ◌&&◌, ◌||◌}
 use mathlib.Core.List.{List, [], ◌∷◌}
 use native.Mathlib.Omega.{arith}
-use native.Mathlib.Nat.{add-zero, zero-add}
+use native.Mathlib.Nat.{zero-add}
 use borrow.Author.Tests.{eq-eqb, ne_eqb}
 use lib.Dec.{eqb}
 use lib.ListN.{drop}
@@ -36,11 +36,15 @@ others_bear_lem : (name : List ℕ) (i k : ℕ) (xs : List Read) → others_bear
 unfolding others_bear name_among
 others_bear_lem name zero k [] = refl
 others_bear_lem name (suc i) k [] = refl
-others_bear_lem name zero k (x ∷ xs) = rw (add-zero, eq-eqb k k refl) (all_bear name k (k + 1) xs (omega arith))
+others_bear_lem name zero k (x ∷ xs) =
+    let e : eqb k (k + 0) ≡ true = eq-eqb k (k + 0) (omega arith) in
+    rw e (all_bear name (k + 0) (k + 1) xs (omega arith))
 others_bear_lem name (suc i) k (x ∷ xs) =
     let d : eqb k (k + suc i) ≡ false = ne_eqb k (k + suc i) (λ e. omega arith) in
     let e : k + suc i ≡ k + 1 + i = omega arith in
-    rw (d, e, others_bear_lem name i (k + 1) xs)
+    let f : others_bear name (k + suc i) (k + 1) xs ≡ name_among name (replaced i [] xs) =
+    ap (λ (n : ℕ). others_bear name n (k + 1) xs) e ∙ others_bear_lem name i (k + 1) xs in
+    rw (d, f)
 
 -- k reads are behind the boundary: those at it and after it decide
 pub record Sought (name b : List ℕ) (i k : ℕ) (at : Boundary) : Type 0 where

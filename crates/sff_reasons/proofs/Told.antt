@@ -2,23 +2,26 @@
 use Prim.Native.Nat.{ℕ, ◌+◌, ◌-◌, ◌*◌, ◌≤◌, ◌<◌}
 use mathlib.Core.Path.{◌≡◌, refl, sym, ap, ◌∙◌}
 use mathlib.Core.Bool.{Bool, true, false, not}
-use mathlib.Core.List.{List}
+use mathlib.Core.List.{List, []}
 use native.Mathlib.Omega.{arith}
 use borrow.Author.Tests.{not-false, ltb-true, ltb-false, lt-ltb, le-ltb, ne_eqb}
 use lib.Dec.{ltb, eqb}
-use lib.ListN.{length}
-use lib.Seq.{take-length}
+use lib.ListN.{length, drop}
 use Rattle.octets.specs.Parts.{part, same, up8}
+use Rattle.octets.specs.Numbers.{Bytes}
 use Rattle.octets.proofs.Lists.{length_part}
 use Rattle.octets.proofs.Same.{same-lengths}
 use Rattle.answers.specs.declared.Answer.{Answer}
 use Rattle.answers.specs.declared.Answer.TheVariants.{Accepted, Refused}
 use Rattle.answers.specs.Answer.{accepted_or}
 use Rattle.answers.proofs.Answers.{cond_keeps}
+use Rattle.answers.specs.Rows.{Row, first_row}
+use Rattle.answers.proofs.Rows.{row-holds, row-not}
 use Rattle.sff_format.specs.Rules.{declared}
 use Rattle.sff_format.specs.Model.{layout}
 use Rattle.sff_format.specs.HeaderTest.{index_offset, index_length, read_count, flows, flow_characters}
 use Rattle.sff_format.specs.ReadTest.{section_length, name_length, base_count, clip_test, read_test}
+use Rattle.sff_format.specs.FileTest.{file_test}
 use Rattle.sff_format.specs.Parse.{parse_read, parse}
 use Rattle.sff_format.specs.Places.{read_place}
 use Rattle.sff_format.proofs.HeaderLaws.{characters-length}
@@ -28,13 +31,13 @@ use Rattle.sff_format.proofs.FileLaid.{head_ok, reads-counted, index-passed, fil
 use Rattle.sff_format.proofs.Places.{read_found}
 use Rattle.sff_format.proofs.Positions.{read-accepted}
 use Rattle.correction_format.specs.declared.Fields.{Fields}
-use Rattle.correction_format.specs.Record.{kind, old_name, new_name, new_quality_left, new_quality_right, new_adapter_left, new_adapter_right}
+use Rattle.correction_format.specs.Record.{record_test, kind, old_name, new_name, new_quality_left, new_quality_right, new_adapter_left, new_adapter_right}
 use Rattle.correction_format.specs.Correction.{Change, clips, rename, remove, is_clips}
 use Rattle.correction_format.specs.RecordLayout.{change_in}
-use Rattle.correction_format.specs.Fields.{asked}
+use Rattle.correction_format.specs.Fields.{FieldsOf, asked}
 use Rattle.correction_format.specs.Edit.{target, edited}
-use Rattle.correction_format.specs.Reasons.{has_target, clips_above, others, name_among, new_name_among, position_above, other_name, index_present, clip_above, name_taken, no_room}
-use Rattle.correction_format.proofs.Asked.{kind_of_lem, clips-asked, rename-asked, new_length_of, old-inside, new-inside}
+use Rattle.correction_format.specs.Reasons.{has_target, clips_above, others, name_among, new_name_among, position_above, other_name, index_present, clip_above, name_taken, no_room, reason_rows, reasons}
+use Rattle.correction_format.proofs.Asked.{kind_of_lem, clips-asked, rename-asked, new_length_of}
 use Rattle.correction_format.proofs.EditedSizes.{clips-size, name-size, none_size}
 use Rattle.sff_reasons.specs.ReadAtPosition.{ReadAtPosition}
 
@@ -42,12 +45,6 @@ use Rattle.sff_reasons.specs.ReadAtPosition.{ReadAtPosition}
 module _ (name b : List ℕ) (p n : ℕ) {m : ℕ} (e : m ≡ n) where
   pub names_differ : p + n ≤ length b → (length name ≡ m → ⊥) → false ≡ same name (part p n b)
   names_differ h d = let z = length_part p n b h in sym (same-lengths name (part p n b) (λ f. d (omega (arith, z, e, f))))
-
-  pub names_compared : length name ≡ m → {t : Bool} → t ≡ same (part 0 (length name) name) (part p (length name) b) → t ≡ same name (part p n b)
-  names_compared d f =
-      let w : part 0 (length name) name ≡ name = take-length name in
-      let l : length name ≡ n = d ∙ e in
-      f ∙ (λ i. same (w i) (part p (l i) b))
 
 -- as much is added on both sides of a test
 moved_over : (room n k u v : ℕ) → n ≤ room → v + k ≡ n + u → ltb (room - n + k) u ≡ ltb room v
@@ -90,9 +87,6 @@ module _ {b r : List ℕ} {x : Fields} (s : ReadAtPosition b r x) where
 
   laid : length (layout (parse b)) ≡ length b
   laid = ap length (file_laid b s.bytes s.accepted)
-
-  pub found-lengths : (x.old_length ≤ 40) × (x.new_length ≤ 40)
-  found-lengths = (old-inside x r s.fields_of s.formed, new-inside x r s.fields_of s.formed)
 
   module _ (room : ℕ) where
     -- the position (21)
@@ -192,3 +186,56 @@ module _ {b r : List ℕ} {x : Fields} (s : ReadAtPosition b r x) where
           let z : length (layout (edited (asked x r) (parse b))) + section_length b p ≡ length b + up8 (16 + x.new_length) =
           rw (m, ← section_is (flow_characters b) b p there, laid, ← new_length_of x r s.fields_of s.formed) at n in
           rw (has_target_lem, e, f) (moved_over room (length b) (section_length b p) _ _ h z)
+
+-- what they are given, from what `reason` is given
+pub found : {b r : List ℕ} {x : Fields} → Bytes b → file_test b ≡ Accepted → record_test r ≡ Accepted → FieldsOf x r
+    → x.position < read_count b → ReadAtPosition b r x
+found z e f o h = record { bytes = z; accepted = e; formed = f; fields_of = o; below = h }
+
+-- The tests in document 01's order: the first that holds gives its number.
+module _ {b r : List ℕ} {x : Fields} (s : ReadAtPosition b r x) (room : ℕ) where
+  abbrev rows : List Row
+  rows = reason_rows room (asked x r) (parse b)
+
+  none_21 : first_row rows ≡ first_row (drop 1 rows)
+  none_21 = row-not 21 _ _ (read-there s room)
+
+  pub first_22 : true ≡ other_name room (asked x r) (parse b) → Refused 22 0 ≡ reasons room (asked x r) (parse b)
+  unfolding reasons
+  first_22 e = sym (none_21 ∙ row-holds 22 _ _ (sym e))
+
+  module _ (e₂ : false ≡ other_name room (asked x r) (parse b)) where
+    none_22 : first_row rows ≡ first_row (drop 2 rows)
+    none_22 = none_21 ∙ row-not 22 _ _ (sym e₂)
+
+    pub first_25 : true ≡ index_present room (asked x r) (parse b) → Refused 25 0 ≡ reasons room (asked x r) (parse b)
+    unfolding reasons
+    first_25 e = sym (none_22 ∙ row-holds 25 _ _ (sym e))
+
+    module _ (e₅ : false ≡ index_present room (asked x r) (parse b)) where
+      none_25 : first_row rows ≡ first_row (drop 3 rows)
+      none_25 = none_22 ∙ row-not 25 _ _ (sym e₅)
+
+      pub first_23 : true ≡ clip_above room (asked x r) (parse b) → Refused 23 0 ≡ reasons room (asked x r) (parse b)
+      unfolding reasons
+      first_23 e = sym (none_25 ∙ row-holds 23 _ _ (sym e))
+
+      module _ (e₃ : false ≡ clip_above room (asked x r) (parse b)) where
+        none_23 : first_row rows ≡ first_row (drop 4 rows)
+        none_23 = none_25 ∙ row-not 23 _ _ (sym e₃)
+
+        pub first_24 : true ≡ name_taken room (asked x r) (parse b) → Refused 24 0 ≡ reasons room (asked x r) (parse b)
+        unfolding reasons
+        first_24 e = sym (none_23 ∙ row-holds 24 _ _ (sym e))
+
+        module _ (e₄ : false ≡ name_taken room (asked x r) (parse b)) where
+          none_24 : first_row rows ≡ first_row (drop 5 rows)
+          none_24 = none_23 ∙ row-not 24 _ _ (sym e₄)
+
+          pub first_26 : true ≡ no_room room (asked x r) (parse b) → Refused 26 0 ≡ reasons room (asked x r) (parse b)
+          unfolding reasons
+          first_26 e = sym (none_24 ∙ row-holds 26 _ _ (sym e))
+
+          pub none_26 : false ≡ no_room room (asked x r) (parse b) → Accepted ≡ reasons room (asked x r) (parse b)
+          unfolding reasons first_row
+          none_26 e = sym (none_24 ∙ row-not 26 _ [] (sym e))

@@ -6,23 +6,13 @@ use mathlib.Core.List.{List, [], ◌∷◌, ◌++◌}
 use native.Mathlib.Nat.{add-zero, add_assoc}
 use native.Mathlib.Omega.{arith}
 use lib.ListN.{length, replicate, set, length-append}
-use lib.Seq.{take-length}
-use Rattle.octets.specs.Parts.{part, put_at, up8, filled, padded}
+use Rattle.octets.specs.Parts.{put_at, up8, filled, padded}
 use Rattle.octets.specs.Numbers.{bytes_of, fields, words}
 use Rattle.octets.proofs.Lists.{put_nil, put_next, put_sets, length_put}
 use Rattle.octets.proofs.Digits.{length-bytes_of}
 use Rattle.octets.proofs.Stands.{width, length_fields_lem, fields-append, length_units}
 use Rattle.sff_format.specs.declared.Clips.{Clips}
 use Rattle.sff_sections.specs.Sections.{clip_fields, section_fields, header_section, data_section, start_fields, length_fields}
-
--- a whole list
-pub bytes_put : (at : ℕ) (xs s : List ℕ) {s₁ : List ℕ} → s₁ ≡ put_at at (part 0 (length xs) xs) s → s₁ ≡ put_at at xs s
-bytes_put at xs s e = rw take-length at e
-
--- zeros to the next multiple of 8, which is n
-pub zeros_put : (at used n : ℕ) (s : List ℕ) {s₁ : List ℕ} → n ≡ up8 used
-    → s₁ ≡ put_at (at + used) (replicate (at + n - (at + used)) 0) s → s₁ ≡ put_at (at + used) (replicate (up8 used - used) 0) s
-zeros_put at used n s e₁ e₂ = let e : at + up8 used - (at + used) ≡ up8 used - used = omega arith in rw (e₁, e) at e₂
 
 -- zeros behind a list
 pub padding_put : (at n : ℕ) (xs s : List ℕ) → length xs ≡ n → at + n ≤ length s

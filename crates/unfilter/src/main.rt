@@ -2,14 +2,15 @@
 
 #![tactic(auto)]
 
-use libc::STDIN_FILENO;
+use loading::read_input;
 use printing::print_text;
+use std::io;
 
-fn main() {
+fn main(rt: HostRuntime) -> io::Result<()> {
     let mut input = [0u8; 65537];
-    let n = io::read_full(STDIN_FILENO, &mut input);
+    let n = read_input(&rt, &mut input)?;
     let mut first = unfilter_text::print_room();
     let mut second = unfilter_text::print_room();
     let written = unfilter_text::print(&input[..n], &mut first, &mut second);
-    print_text(written, &first);
+    print_text(&rt, written, &first)
 }

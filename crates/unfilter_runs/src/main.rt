@@ -2,34 +2,28 @@
 
 #![tactic(auto)]
 
-use libc::STDOUT_FILENO;
+use loading::{Loaded, argument_count, load_named};
+use octets::whole_part;
 use printing::print_text;
+use std::io;
+use std::rt::{Env, Files};
 
-fn print_block(i: usize) {
-    let mut path = io::buffer();
-    let n = os::arg(i, &mut path);
-    let fd = os::open_read(&path[..n]);
-    if fd < 0 {
-        os::fail(&path[..n]);
-        return;
-    }
+fn print_block(rt: &(impl Env + Files + Print + Eprint), i: usize) -> io::Result<()> {
     let mut input = [0u8; 65537];
-    let m = io::read_full(fd, &mut input);
-    libc::close(fd);
+    let block = load_named(rt, i, &mut input)?;
+    let Loaded::Bytes(n) = block else {
+        return Ok(());
+    };
     let mut first = unfilter_text::print_room();
     let mut second = unfilter_text::print_room();
-    let written = unfilter_text::print(&input[..m], &mut first, &mut second);
-    io::write_all(STDOUT_FILENO, &path[..n]);
-    io::write_all(STDOUT_FILENO, b":\n");
-    print_text(written, &first);
-    io::write_all(STDOUT_FILENO, b"\n");
+    let written = unfilter_text::print(whole_part(&input, 0, n), &mut first, &mut second);
+    print_text(rt, written, &first)?;
+    rt.write_all(b"\n")
 }
 
-fn main() {
-    let n = os::arg_count();
-    let mut i: usize = 1;
-    while i < n {
-        print_block(i);
-        i += 1;
+fn main(rt: HostRuntime) -> io::Result<()> {
+    for i in 1..argument_count(&rt) {
+        print_block(&rt, i)?;
     }
+    Ok(())
 }

@@ -1,6 +1,7 @@
 -- The tests stand in the definition's order: at each `return` those before it have passed and this one decides. Good
 -- counts bound the bases, as the tests of the clips and of the bases ask.
 use mathlib.Core.Path.{sym, ◌∙◌}
+use native.Mathlib.Omega.{arith}
 use Rattle.answers.proofs.Chains.{refusal, onward}
 use Rattle.sff_format.specs.Writing.{given_test}
 use Rattle.sff_format.proofs.Given.{counts_ok}
@@ -20,7 +21,8 @@ unfolding given_test
 returns-then-fails c = search refusal
 
 pub clips_test-clipped-requires : goal.clips_test-clipped-requires
-clips_test-clipped-requires c = (counts_ok _ _ _ _ _ (sym c.bad_counts.ensures ∙ c.if-bad_counts.false)).3
+clips_test-clipped-requires c =
+    omega (arith, counts_ok _ _ _ _ _ (sym c.bad_counts.ensures ∙ c.if-bad_counts.false))
 
 pub returns-in_default : goal.returns-in_default
 unfolding given_test

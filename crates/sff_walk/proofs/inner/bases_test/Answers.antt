@@ -1,5 +1,5 @@
-use Rattle.std.proofs.Common.{◌≡◌, ◌+◌, sym, ◌∙◌, length, arith}
-use Rattle.sff_walk.proofs.Walk.{Walked, Stopped, flow_in, matched_more}
+use Rattle.std.proofs.Common.{sym, ◌∙◌, arith}
+use Rattle.sff_walk.proofs.Walk.{Stopped, flow_in, matched_more}
 use Rattle.sff_walk.proofs.Walk.{stopped_end, stopped_walk, stopped_base}
 use Rattle.sff_walk.proofs.Walk.{answer_end, answer_here, walked_past, answer_walk, answer_base}
 use Rattle.sff_walk.proofs.inner.bases_test.Goals as goal
@@ -37,24 +37,34 @@ stopped : (c : Else-stop-count) →
 stopped c =
     let m = c.loop-k.invariant in
     elim c.if-k-count.branch [
-      then-k-count w ↦ stopped_end m w.if-k-count.true w.stop-is
-    | else-k-count+then-not-within w ↦
-        rw w.flow-is
-        (stopped_walk m w.if-k-count.false w.after-flow.ensures w.within.ensures w.if-not-within.true w.stop-is)
-    | else-k-count+else-not-within+then-not-base_matches w ↦
-        let matched = w.base_matches.ensures in
-        let wrong = w.if-not-base_matches.true in
-        rw w.flow-is
-        (stopped_base m w.if-k-count.false w.after-flow.ensures w.within.ensures w.if-not-within.false matched wrong w.stop-is)
+      | then-k-count w ↦ stopped_end m w.if-k-count.true w.stop-is
+      | else-k-count+then-not-within w ↦
+          rw w.flow-is
+          (stopped_walk m w.if-k-count.false w.after-flow.ensures w.within.ensures w.if-not-within.true w.stop-is)
+      | else-k-count+else-not-within+then-not-base_matches w ↦
+          let within = w.if-not-within.false in
+          let wrong = w.if-not-base_matches.true in
+          rw w.flow-is
+          (
+          stopped_base
+          m
+          w.if-k-count.false
+          w.after-flow.ensures
+          w.within.ensures
+          within
+          w.base_matches.ensures
+          wrong
+          w.stop-is
+          )
     ]
 
 pub returns-then-stop-count : goal.returns-then-stop-count
 returns-then-stop-count c =
     let m = c.loop-k.invariant in
     elim c.if-k-count.branch [
-      then-k-count w ↦ answer_end (stopped_end m {x = 0} w.if-k-count.true w.stop-is) c.if-stop-count.true
-    | else-k-count+then-not-within w ↦ absurd (omega (arith, m.walked.low))
-    | else-k-count+else-not-within+then-not-base_matches w ↦ absurd (omega (arith, m.walked.low))
+      | then-k-count w ↦ answer_end (stopped_end m {x = 0} w.if-k-count.true w.stop-is) c.if-stop-count.true
+      | else-k-count+then-not-within w ↦ absurd (omega (arith, m.walked.low))
+      | else-k-count+else-not-within+then-not-base_matches w ↦ absurd (omega (arith, m.walked.low))
     ]
 
 pub returns-then-not-within-2 : goal.returns-then-not-within-2

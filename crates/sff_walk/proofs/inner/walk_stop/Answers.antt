@@ -1,4 +1,3 @@
-use Prim.Native.Nat.{◌-◌}
 use Rattle.sff_walk.proofs.Walk.{walking}
 use Rattle.sff_walk.proofs.inner.walk_stop.Goals as goal
 

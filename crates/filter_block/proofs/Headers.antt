@@ -2,17 +2,13 @@
 use Prim.Native.Nat.{ℕ, ◌<◌, ◌≤◌}
 use mathlib.Core.Path.{◌≡◌, refl, subst}
 use mathlib.Core.Bool.{Bool, true, false, cond}
-use mathlib.Core.List.{List, [], ◌∷◌}
+use mathlib.Core.List.{List}
 use native.Mathlib.Omega.{arith}
 use lib.Dec.{eqb}
-use lib.ListN.{length, get_or}
+use lib.ListN.{length}
 use Rattle.filter_format.specs.declared.Filter.{Filter}
 use Rattle.filter_format.specs.declared.Filter.TheVariants.{Delta}
 use Rattle.filter_format.specs.Block.{HasUnitWidth, header_length}
-
-pub first_none : (b : List ℕ) → length b ≡ 0 → 0 ≡ get_or b 0 0
-first_none [] e = refl
-first_none (x ∷ b) e = absurd (omega (arith, e))
 
 two_or_four : (t : Bool) → (2 ≤ cond t 4 2) × (cond t 4 2 ≤ 4)
 two_or_four true = (omega arith, omega arith)
@@ -29,6 +25,3 @@ level_in w b h = let k = delta-start w (header_length (Delta w)) refl in omega a
 -- what is known of a filter, of the case that it is
 pub told : (f g : Filter) (b : List ℕ) → f ≡ g → (HasUnitWidth f) × (header_length f ≤ length b) → (HasUnitWidth g) × (header_length g ≤ length b)
 told f g b e h = subst (λ (x : Filter). (HasUnitWidth x) × (header_length x ≤ length b)) e h
-
-pub told_fits : (f g : Filter) (b : List ℕ) → f ≡ g → header_length f ≤ length b → header_length g ≤ length b
-told_fits f g b e h = subst (λ (x : Filter). header_length x ≤ length b) e h

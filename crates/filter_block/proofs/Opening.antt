@@ -24,13 +24,6 @@ Put f b r out out' = (r ≡ length (undone f b)) × (out' ≡ put_at 0 (undone f
 put_as : (f : Filter) (b xs out out' : List ℕ) (r : ℕ) → undone f b ≡ xs → r ≡ length xs → out' ≡ put_at 0 xs out → Put f b r out out'
 put_as f b xs out out' r e l h = rw e (l, h)
 
--- the case that a filter is
-pub undoable : (f g : Filter) (b : List ℕ) (room : ℕ) → f ≡ g → Undoable f b room → Undoable g b room
-undoable f g b room e o = subst (λ (x : Filter). Undoable x b room) e o
-
-pub put_of : (f g : Filter) (b : List ℕ) (r : ℕ) (out out' : List ℕ) → f ≡ g → Put g b r out out' → Put f b r out out'
-put_of f g b r out out' e p = subst (λ (x : Filter). Put x b r out out') (sym e) p
-
 pub put_other : (f : Filter) (b out : List ℕ) → f ≡ Other → Put f b 0 out out
 unfolding undone decoded
 put_other f b out e = rw e (refl, sym (put_nil 0 out))

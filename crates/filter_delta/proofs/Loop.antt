@@ -1,6 +1,6 @@
 -- A pass for each level: the levels left, of what stands, are the goal. One argument for every transform. Assumes
 -- nothing.
-use Rattle.std.proofs.Common.{◌≡◌, ℕ, suc, ◌-◌, ◌%◌, ◌<◌, ◌≤◌, List, length, sym, refl, ap, ◌∙◌, arith}
+use Rattle.std.proofs.Common.{◌≡◌, ℕ, suc, ◌-◌, ◌%◌, ◌<◌, List, length, refl, ap, ◌∙◌, arith}
 use Rattle.octets.specs.Numbers.{Bytes}
 use Rattle.filter_delta.proofs.Transform.{Transform}
 
@@ -27,8 +27,3 @@ module _ {w level left : ℕ} {f : ℕ → List ℕ → List ℕ} {s₀ s : List
         bytes = y;
         made = ap (f (left - 1)) e ∙ l.transform.next s (left - 1) ∙ ap (λ (k : ℕ). f k s) one ∙ l.made;
       }
-
-  pub levels_done : left ≤ 0 → s ≡ f level s₀
-  levels_done h =
-      let e : 0 ≡ left = omega arith in
-      sym (l.transform.none s l.whole l.bytes) ∙ ap (λ (k : ℕ). f k s) e ∙ l.made

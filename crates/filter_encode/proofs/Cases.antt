@@ -10,14 +10,11 @@ use Rattle.filter_format.specs.declared.Filter.{Filter}
 use Rattle.filter_format.specs.declared.Filter.TheVariants.{Delta, Narrow, Follow}
 use Rattle.filter_format.specs.Units.{IsWidth, units_of}
 use Rattle.filter_format.specs.Narrow.{narrow}
-use Rattle.filter_format.specs.Block.{filter_of, HasUnitWidth, is_filter, header_length, bad_level}
+use Rattle.filter_format.specs.Block.{HasUnitWidth, is_filter, header_length, bad_level}
 use Rattle.filter_format.specs.Encode.{bad_given, bad_units, encoded_data}
 use Rattle.filter_encode.specs.Judged.{data_length, Judged, Headed}
 use Rattle.filter_format.proofs.Wholes.{whole_units}
 use Rattle.filter_encode.proofs.Lengths.{follow_long}
-
-pub delta-width : {f : Filter} {w : ℕ} → f ≡ Delta w → HasUnitWidth f → IsWidth w
-delta-width e k = subst HasUnitWidth e k
 
 pub narrow-width : {f : Filter} {w : ℕ} → f ≡ Narrow w → HasUnitWidth f → (IsWidth w) × (2 ≤ w)
 narrow-width e k = subst HasUnitWidth e k
@@ -74,12 +71,3 @@ no_filter f g e i h =
     let z : false ≡ true = sym i ∙ ap is_filter (sym e) ∙ h in
     let y : ◌≡◌ {A = ℕ} 0 1 = cc in
     absurd (let x : ⊥ = omega arith in x)
-
--- what was judged of the format, of the filter that it stands for, in a buffer that was written to
-module _ {f : Filter} (format : ℕ) (i : f ≡ filter_of format) (level : ℕ) (follow s : List ℕ)
-    (n : ℕ) (h : Judged (filter_of format) level follow s n) {m : ℕ} (same : m ≡ n) where
-  pub data_next : Judged f level follow s m
-  data_next = rw (i, same) h
-
-  pub header_next : Headed f level follow m
-  header_next = let k = data_next in (k.2, omega (arith, k.4))

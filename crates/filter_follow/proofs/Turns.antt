@@ -94,9 +94,6 @@ module _ {at : ℕ} {f seen xs made s₁ s : List ℕ} {p j : ℕ} (t : Turn at 
 
   -- s₀ is the buffer before the first byte was put
   module _ (s₀ : List ℕ) (e : s₁ ≡ set s₀ at (get_or xs 0 0)) where
-    pub same_long : length s ≡ length s₀
-    same_long = t.up.same ∙ ap length e ∙ length-set s₀ at (get_or xs 0 0)
-
     pub done : 0 < length xs → length xs ≤ j → s ≡ put_at at made s₀
     unfolding put_at
     done some h =

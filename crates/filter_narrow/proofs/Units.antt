@@ -17,7 +17,7 @@ use Rattle.filter_format.specs.Units.{units_of}
 use Rattle.filter_format.specs.Narrow.{least_narrowed, narrow_unit, narrow}
 use Rattle.filter_format.proofs.Wholes.{units_in}
 use Rattle.filter_narrow.specs.Counted.{fits_one}
-use Rattle.filter_narrow.proofs.Filling.{Filling, filling_start, filling_same, filling_room, filling_more, filling_done}
+use Rattle.filter_narrow.proofs.Filling.{Filling, filling_start, filling_room, filling_more, filling_done}
 
 -- t is what the test of the unit u gave
 module _ (w u : ℕ) {t : Bool} (e : t ≡ fits_one w u) where
@@ -65,9 +65,6 @@ module _ {w from left : ℕ} {s : List ℕ} (m : Remaining w from left s) (some 
   split : w * left ≡ w * (left - 1) + w
   split = let e : left ≡ suc (left - 1) = omega arith in ap (λ (k : ℕ). w * k) e ∙ mul-suc w (left - 1) ∙ omega arith
 
-  pub remaining_within : from + w ≤ length s
-  remaining_within = omega (arith, split, m.exact)
-
   remaining_more : Remaining w (from + w) (left - 1) s
   remaining_more = record { exact = omega (arith, split, m.exact) }
 
@@ -89,9 +86,6 @@ pub record Measuring (w from left size : ℕ) (s : List ℕ) : Type 0 where
   pub sum : size + length (narrow w (units_at w left from s)) ≡ length (narrow w (units_of w s))
   pub few : 2 * size ≤ 3 * from
   pub wide : 2 ≤ w
-
-pub measuring_start : (w : ℕ) (s : List ℕ) → length s % w ≡ 0 → 2 ≤ w → Measuring w 0 (length s / w) 0 s
-measuring_start w s e h = record { units = remaining_start w s e; sum = omega arith; few = omega arith; wide = h }
 
 module _ {w from left size : ℕ} {s : List ℕ} (m : Measuring w from left size s) where
   pub measuring_few : 2 * size ≤ 3 * length s
@@ -116,9 +110,6 @@ pub narrowing_start : (w at : ℕ) (s out : List ℕ) → length s % w ≡ 0 →
 narrowing_start w at s out e h = record { units = remaining_start w s e; filling = filling_start at (narrow w (units_of w s)) out h }
 
 module _ {w at from left to : ℕ} {s out₀ out : List ℕ} (m : Narrowing w at from left to s out₀ out) where
-  pub narrowing_same : length out ≡ length out₀
-  narrowing_same = filling_same m.filling
-
   module _ (some : 0 < left) (u : ℕ) (e : u ≡ number w from s) where
     abbrev to_come : List ℕ
     to_come = narrow w (units_at w (left - 1) (from + w) s)

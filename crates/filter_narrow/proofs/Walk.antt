@@ -1,6 +1,6 @@
 -- The walk over units of formats 70 and 71, a unit a turn: the invariants of the count and of the loop that puts the
 -- units whole. Assumes nothing.
-use mathlib.Core.Path.{◌≡◌, refl, sym, ap, ◌∙◌}
+use mathlib.Core.Path.{◌≡◌, sym, ap, ◌∙◌}
 use mathlib.Core.List.{List, ◌∷◌, ◌++◌}
 use Prim.Native.Nat.{ℕ, suc, ◌+◌, ◌-◌, ◌<◌, ◌≤◌}
 use native.Mathlib.Numerals.{add-one}
@@ -82,9 +82,6 @@ pub record Counting (w i units : ℕ) (s : List ℕ) : Type 0 where
   pub sum : units + begun w 0 (drop i s) ≡ begun w 0 s
   pub few : units ≤ i
   pub within : i ≤ length s
-
-pub counting_start : (w : ℕ) (s : List ℕ) → Counting w 0 0 s
-counting_start w s = record { lacks = refl; sum = omega arith; few = omega arith; within = omega arith }
 
 module _ {w i units : ℕ} {s : List ℕ} (m : Counting w i units s) where
   more : {j : ℕ} {u : List ℕ} → Turn w i j u s → Counting w j (units + 1) s

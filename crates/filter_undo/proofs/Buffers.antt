@@ -19,6 +19,10 @@ pub record Holds (n : ℕ) (xs s s₁ : List ℕ) : Type 0 where
   pub is : s₁ ≡ put_at 0 xs s
   pub count : n ≡ length xs
 
+pub holds_all : {n : ℕ} {xs s s₁ : List ℕ} → length xs ≤ length s → (n ≡ length xs) × (s₁ ≡ put_at 0 xs s)
+    → Holds n xs s s₁
+holds_all h e = record { fits = h; is = e.1; count = e.0 }
+
 -- the data behind the format byte of `here`
 module _ {n : ℕ} {s s₁ : List ℕ} (here : List ℕ) (within : n < length here) (fits : n ≤ length s) (is : s₁ ≡ put_at 0 (part 1 n here) s) where
   pub holds-part : Holds n (part 1 n here) s s₁

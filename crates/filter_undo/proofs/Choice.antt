@@ -27,6 +27,10 @@ pub record Told (left room : ℕ) (f : Filter) (answer : Answer) (b here there :
   pub is_filter_lem : f ≡ filter_at b
   pub is_answer : answer ≡ block_test left room b
 
+pub told_of : {left room : ℕ} {f : Filter} {answer : Answer} {b here there : List ℕ}
+    → room ≡ min (length here) (length there) → f ≡ filter_at b → answer ≡ block_test left room b → Told left room f answer b here there
+told_of r i a = record { is_room = r; is_filter_lem = i; is_answer = a }
+
 -- the tests accept it
 pub record Passed (left : ℕ) (f : Filter) (b here there : List ℕ) : Type 0 where
   pub is_filter_lem : f ≡ filter_at b
@@ -92,6 +96,10 @@ pub record Data (left len : ℕ) (f : Filter) (here there : List ℕ) : Type 0 w
   pub passed : Passed left f (take len here) here there
   pub raw : is_raw f ≡ true
 
+pub data_of : {left len : ℕ} {f : Filter} {here there : List ℕ} → len ≤ length here
+    → Passed left f (take len here) here there → is_raw f ≡ true → Data left len f here there
+data_of i p r = record { inside = i; passed = p; raw = r }
+
 module _ {left len : ℕ} {f : Filter} {here there : List ℕ} (d : Data left len f here there) where
   some : 0 < len
   some = omega (arith, raw_some d.passed d.raw, length-take-le len here d.inside)
@@ -140,6 +148,10 @@ pub record ToldAlone (room : ℕ) (f : Filter) (answer : Answer) (b first second
   pub is_room : room ≡ min (length first) (length second)
   pub is_filter_lem : f ≡ filter_at b
   pub is_answer : answer ≡ layer_test room b
+
+pub told_alone : {room : ℕ} {f : Filter} {answer : Answer} {b first second : List ℕ}
+    → room ≡ min (length first) (length second) → f ≡ filter_at b → answer ≡ layer_test room b → ToldAlone room f answer b first second
+told_alone r i a = record { is_room = r; is_filter_lem = i; is_answer = a }
 
 module _ {room : ℕ} {f : Filter} {answer : Answer} {b first second : List ℕ} (t : ToldAlone room f answer b first second) where
   layer_tested : answer ≡ layer_test (room_of first second) b

@@ -18,9 +18,6 @@ module _ (s : List ℕ) (at w : ℕ) where
   pub got_one : (r : ℕ) → w ≡ 1 → at < length s → r ≡ get_or s at 0 → r < 256 → (r ≡ number w at s) × (r < range w)
   got_one r e h a b = got 1 r e (a ∙ sym (number_one at s h)) b
 
-  pub put : (k v : ℕ) (t : List ℕ) → w ≡ k → t ≡ put_at at (bytes_of k v) s → t ≡ put_at at (bytes_of w v) s
-  put k v t e h = rw e h
-
   pub put_one : (v : ℕ) → w ≡ 1 → at < length s → set s at (v % 256) ≡ put_at at (bytes_of w v) s
   unfolding bytes_of
   put_one v e h = rw (e, div-one v) (put_sets (v % 256 ∷ []) s at (omega arith))

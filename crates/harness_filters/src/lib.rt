@@ -67,6 +67,7 @@ pub fn samples_out(
     number_of(answer)
 }
 
+#[tactic(auto, unfolding(crate::specs::Samples::samples))]
 fn samples_either(precision: usize, undone: u64, source: &[u8], out: &mut [u8]) -> Filtered
     ensures value { result ≡ filtered (samples undone (length out.old) precision source.now) }
     ensures out_after { out.new ≡ out_after (samples undone (length out.old) precision source.now) out.old }

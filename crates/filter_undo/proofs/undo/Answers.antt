@@ -3,134 +3,70 @@
 -- left.
 use mathlib.Core.Path.{sym, ◌∙◌}
 use mathlib.Core.Bool.{true}
-use Rattle.filter_format.specs.Block.{undone}
-use Rattle.filter_undo.proofs.Buffers.{Holds, held_inside}
-use Rattle.filter_undo.proofs.Choice.{Told, told_accepted, chosen_refused, undoable_here, chosen_raw, chosen_layer, handed}
+use Rattle.filter_undo.proofs.Buffers.{holds_all, held_inside}
+use Rattle.filter_undo.proofs.Choice.{told_of, told_accepted, undoable_here}
+use Rattle.filter_undo.proofs.Choice.{chosen_refused, chosen_raw, chosen_layer, handed}
 use Rattle.filter_undo.proofs.undo.Goals as goal
 
 pub returns-in-Refused-clause-value : goal.returns-in-Refused-clause-value
 returns-in-Refused-clause-value c =
-    let told : Told 8 c.least-room.result c.filter_at-filter.result c.block_test-answer.result
-    c.args.block.now c.args.first.now c.args.second.now
-    = record {
-      is_room = c.least-room.ensures;
-      is_filter_lem = c.filter_at-filter.ensures;
-      is_answer = c.block_test-answer.ensures;
-    } in
-    (chosen_refused told true c.in-Refused.is (c.refuse.ensures.value, (c.refuse.ensures.first_after, c.refuse.ensures.second_after))).0
+    let told = told_of c.least-room.ensures c.filter_at-filter.ensures c.block_test-answer.ensures in
+    let left = c.refuse.ensures in
+    (chosen_refused told true c.in-Refused.is (left.value, (left.first_after, left.second_after))).0
 
 pub returns-in-Refused-clause-first_after : goal.returns-in-Refused-clause-first_after
 returns-in-Refused-clause-first_after c =
-    let told : Told 8 c.least-room.result c.filter_at-filter.result c.block_test-answer.result
-    c.args.block.now c.args.first.now c.args.second.now
-    = record {
-      is_room = c.least-room.ensures;
-      is_filter_lem = c.filter_at-filter.ensures;
-      is_answer = c.block_test-answer.ensures;
-    } in
-    (chosen_refused told true c.in-Refused.is (c.refuse.ensures.value, (c.refuse.ensures.first_after, c.refuse.ensures.second_after))).1.0
+    let told = told_of c.least-room.ensures c.filter_at-filter.ensures c.block_test-answer.ensures in
+    let left = c.refuse.ensures in
+    (chosen_refused told true c.in-Refused.is (left.value, (left.first_after, left.second_after))).1.0
 
 pub undo_filter-made-requires : goal.undo_filter-made-requires
 undo_filter-made-requires c =
-    let told : Told 8 c.least-room.result c.filter_at-filter.result c.block_test-answer.result
-    c.args.block.now c.args.first.now c.args.second.now
-    = record {
-      is_room = c.least-room.ensures;
-      is_filter_lem = c.filter_at-filter.ensures;
-      is_answer = c.block_test-answer.ensures;
-    } in
+    let told = told_of c.least-room.ensures c.filter_at-filter.ensures c.block_test-answer.ensures in
     undoable_here (told_accepted told c.in_default.is)
 
 pub clear_behind-requires : goal.clear_behind-requires
 clear_behind-requires c =
-    let told : Told 8 c.least-room.result c.filter_at-filter.result c.block_test-answer.result
-    c.args.block.now c.args.first.now c.args.second.now
-    = record {
-      is_room = c.least-room.ensures;
-      is_filter_lem = c.filter_at-filter.ensures;
-      is_answer = c.block_test-answer.ensures;
-    } in
+    let told = told_of c.least-room.ensures c.filter_at-filter.ensures c.block_test-answer.ensures in
     let passed = told_accepted told c.in_default.is in
-    let k = c.undo_filter-made in
-    let held : Holds k.result (undone c.filter_at-filter.result c.args.block.now) c.args.first.now k.new.out
-    = record { fits = (undoable_here passed).3; is = k.ensures.1; count = k.ensures.0 } in
+    let held = holds_all (undoable_here passed).3 c.undo_filter-made.ensures in
     held_inside held
 
 pub returns-then-is_raw-clause-value : goal.returns-then-is_raw-clause-value
 returns-then-is_raw-clause-value c =
-    let told : Told 8 c.least-room.result c.filter_at-filter.result c.block_test-answer.result
-    c.args.block.now c.args.first.now c.args.second.now
-    = record {
-      is_room = c.least-room.ensures;
-      is_filter_lem = c.filter_at-filter.ensures;
-      is_answer = c.block_test-answer.ensures;
-    } in
+    let told = told_of c.least-room.ensures c.filter_at-filter.ensures c.block_test-answer.ensures in
     let passed = told_accepted told c.in_default.is in
-    let k = c.undo_filter-made in
-    let held : Holds k.result (undone c.filter_at-filter.result c.args.block.now) c.args.first.now k.new.out
-    = record { fits = (undoable_here passed).3; is = k.ensures.1; count = k.ensures.0 } in
+    let held = holds_all (undoable_here passed).3 c.undo_filter-made.ensures in
     let raw = sym c.is_raw.ensures ∙ c.if-is_raw.true in
     (chosen_raw passed raw held c.clear_behind.ensures c.clear_behind-then-is_raw.ensures).0
 
 pub returns-then-is_raw-clause-first_after : goal.returns-then-is_raw-clause-first_after
 returns-then-is_raw-clause-first_after c =
-    let told : Told 8 c.least-room.result c.filter_at-filter.result c.block_test-answer.result
-    c.args.block.now c.args.first.now c.args.second.now
-    = record {
-      is_room = c.least-room.ensures;
-      is_filter_lem = c.filter_at-filter.ensures;
-      is_answer = c.block_test-answer.ensures;
-    } in
+    let told = told_of c.least-room.ensures c.filter_at-filter.ensures c.block_test-answer.ensures in
     let passed = told_accepted told c.in_default.is in
-    let k = c.undo_filter-made in
-    let held : Holds k.result (undone c.filter_at-filter.result c.args.block.now) c.args.first.now k.new.out
-    = record { fits = (undoable_here passed).3; is = k.ensures.1; count = k.ensures.0 } in
+    let held = holds_all (undoable_here passed).3 c.undo_filter-made.ensures in
     let raw = sym c.is_raw.ensures ∙ c.if-is_raw.true in
     (chosen_raw passed raw held c.clear_behind.ensures c.clear_behind-then-is_raw.ensures).1.0
 
 pub choose-requires : goal.choose-requires
 choose-requires c =
-    let told : Told 8 c.least-room.result c.filter_at-filter.result c.block_test-answer.result
-    c.args.block.now c.args.first.now c.args.second.now
-    = record {
-      is_room = c.least-room.ensures;
-      is_filter_lem = c.filter_at-filter.ensures;
-      is_answer = c.block_test-answer.ensures;
-    } in
+    let told = told_of c.least-room.ensures c.filter_at-filter.ensures c.block_test-answer.ensures in
     let passed = told_accepted told c.in_default.is in
-    let k = c.undo_filter-made in
-    let held : Holds k.result (undone c.filter_at-filter.result c.args.block.now) c.args.first.now k.new.out
-    = record { fits = (undoable_here passed).3; is = k.ensures.1; count = k.ensures.0 } in
+    let held = holds_all (undoable_here passed).3 c.undo_filter-made.ensures in
     held_inside held
 
 pub returns-clause-value : goal.returns-clause-value
 returns-clause-value c =
-    let told : Told 8 c.least-room.result c.filter_at-filter.result c.block_test-answer.result
-    c.args.block.now c.args.first.now c.args.second.now
-    = record {
-      is_room = c.least-room.ensures;
-      is_filter_lem = c.filter_at-filter.ensures;
-      is_answer = c.block_test-answer.ensures;
-    } in
+    let told = told_of c.least-room.ensures c.filter_at-filter.ensures c.block_test-answer.ensures in
     let passed = told_accepted told c.in_default.is in
-    let k = c.undo_filter-made in
-    let held : Holds k.result (undone c.filter_at-filter.result c.args.block.now) c.args.first.now k.new.out
-    = record { fits = (undoable_here passed).3; is = k.ensures.1; count = k.ensures.0 } in
+    let held = holds_all (undoable_here passed).3 c.undo_filter-made.ensures in
     let not-raw = sym c.is_raw.ensures ∙ c.if-is_raw.false in
     (chosen_layer passed not-raw true (handed held 7 true c.args.second.now c.choose.ensures)).0
 
 pub returns-clause-first_after : goal.returns-clause-first_after
 returns-clause-first_after c =
-    let told : Told 8 c.least-room.result c.filter_at-filter.result c.block_test-answer.result
-    c.args.block.now c.args.first.now c.args.second.now
-    = record {
-      is_room = c.least-room.ensures;
-      is_filter_lem = c.filter_at-filter.ensures;
-      is_answer = c.block_test-answer.ensures;
-    } in
+    let told = told_of c.least-room.ensures c.filter_at-filter.ensures c.block_test-answer.ensures in
     let passed = told_accepted told c.in_default.is in
-    let k = c.undo_filter-made in
-    let held : Holds k.result (undone c.filter_at-filter.result c.args.block.now) c.args.first.now k.new.out
-    = record { fits = (undoable_here passed).3; is = k.ensures.1; count = k.ensures.0 } in
+    let held = holds_all (undoable_here passed).3 c.undo_filter-made.ensures in
     let not-raw = sym c.is_raw.ensures ∙ c.if-is_raw.false in
     (chosen_layer passed not-raw true (handed held 7 true c.args.second.now c.choose.ensures)).1.0

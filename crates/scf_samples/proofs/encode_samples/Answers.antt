@@ -3,7 +3,7 @@
 use Rattle.filter_format.specs.Samples.{encode_samples}
 use Rattle.filter_format.proofs.Levels.{length-delta}
 use Rattle.filter_format.proofs.Results.{refused_answer, refused_out}
-use Rattle.scf_samples.proofs.Either.{judged, written}
+use Rattle.scf_samples.proofs.Either.{judged, written_answer, written_out}
 use Rattle.scf_samples.proofs.encode_samples.Goals as goal
 
 pub returns-in_default-clause-value : goal.returns-in_default-clause-value
@@ -20,11 +20,10 @@ put_delta-requires c = judged _ _ _ c.samples_test-answer.ensures c.in-Accepted.
 pub returns-clause-value : goal.returns-clause-value
 unfolding encode_samples
 returns-clause-value c =
-    (written _ _ _ c.samples_test-answer.ensures c.in-Accepted.is
-    _ _ (λ positive whole. length-delta _ positive _ whole 2) c.put_delta.ensures).0
+    written_answer _ _ _ c.samples_test-answer.ensures c.in-Accepted.is _
+    (λ positive whole. length-delta _ positive _ whole 2)
 
 pub returns-clause-out_after : goal.returns-clause-out_after
 unfolding encode_samples
 returns-clause-out_after c =
-    (written _ _ _ c.samples_test-answer.ensures c.in-Accepted.is
-    _ _ (λ positive whole. length-delta _ positive _ whole 2) c.put_delta.ensures).1
+    written_out _ _ _ c.samples_test-answer.ensures c.in-Accepted.is _ _ c.put_delta.ensures

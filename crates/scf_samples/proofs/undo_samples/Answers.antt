@@ -3,7 +3,7 @@
 use Rattle.filter_format.specs.Samples.{undo_samples}
 use Rattle.filter_format.proofs.Levels.{length-undelta}
 use Rattle.filter_format.proofs.Results.{refused_answer, refused_out}
-use Rattle.scf_samples.proofs.Either.{judged, written}
+use Rattle.scf_samples.proofs.Either.{judged, written_answer, written_out}
 use Rattle.scf_samples.proofs.undo_samples.Goals as goal
 
 pub returns-in_default-clause-value : goal.returns-in_default-clause-value
@@ -20,11 +20,10 @@ put_undelta-requires c = judged _ _ _ c.samples_test-answer.ensures c.in-Accepte
 pub returns-clause-value : goal.returns-clause-value
 unfolding undo_samples
 returns-clause-value c =
-    (written _ _ _ c.samples_test-answer.ensures c.in-Accepted.is
-    _ _ (λ positive whole. length-undelta _ positive _ whole 2) c.put_undelta.ensures).0
+    written_answer _ _ _ c.samples_test-answer.ensures c.in-Accepted.is _
+    (λ positive whole. length-undelta _ positive _ whole 2)
 
 pub returns-clause-out_after : goal.returns-clause-out_after
 unfolding undo_samples
 returns-clause-out_after c =
-    (written _ _ _ c.samples_test-answer.ensures c.in-Accepted.is
-    _ _ (λ positive whole. length-undelta _ positive _ whole 2) c.put_undelta.ensures).1
+    written_out _ _ _ c.samples_test-answer.ensures c.in-Accepted.is _ _ c.put_undelta.ensures

@@ -1,4 +1,5 @@
 -- The filter is one of its cases: for each, the test that is called makes the definition's tests of that case.
+use native.Mathlib.Omega.{arith}
 use Rattle.filter_format.specs.Block.{header_length}
 use Rattle.filter_block.proofs.Headers.{told}
 use Rattle.filter_block.proofs.Tests.{raw_data, follow_data, other_data}
@@ -6,7 +7,7 @@ use Rattle.filter_block.proofs.inner.data_test.Goals as goal
 
 pub overflow_sub-block : goal.overflow_sub-block
 unfolding header_length
-overflow_sub-block c = (told _ _ c.args.block.now c.in-Raw.is c.requires).1
+overflow_sub-block c = omega (arith, (told _ _ c.args.block.now c.in-Raw.is c.requires).1)
 
 pub narrow_test-requires : goal.narrow_test-requires
 unfolding header_length
@@ -14,7 +15,7 @@ narrow_test-requires c = let k = told _ _ c.args.block.now c.in-Narrow.is c.requ
 
 pub overflow_sub-block-in-Follow : goal.overflow_sub-block-in-Follow
 unfolding header_length
-overflow_sub-block-in-Follow c = (told _ _ c.args.block.now c.in-Follow.is c.requires).1
+overflow_sub-block-in-Follow c = omega (arith, (told _ _ c.args.block.now c.in-Follow.is c.requires).1)
 
 pub returns-in-Raw : goal.returns-in-Raw
 returns-in-Raw c = rw (c.in-Raw.is, c.room_test.ensures) (raw_data _ _)

@@ -5,7 +5,7 @@ use Rattle.filter_block.proofs.Opening.{follow_given, follow_put}
 use Rattle.filter_block.proofs.inner.undo_follow.Goals as goal
 
 pub slice_bounds-put_unfollowed-count : goal.slice_bounds-put_unfollowed-count
-slice_bounds-put_unfollowed-count c = (follow_given c.args.block.now c.args.out.now c.requires).0
+slice_bounds-put_unfollowed-count c = omega (arith, (follow_given c.args.block.now c.args.out.now c.requires).0)
 
 pub slice_bounds-put_unfollowed-start : goal.slice_bounds-put_unfollowed-start
 slice_bounds-put_unfollowed-start c = omega (arith, (follow_given c.args.block.now c.args.out.now c.requires).0)

@@ -9,7 +9,8 @@ pub loop-left-preserved : goal.loop-left-preserved
 loop-left-preserved c =
     let v = c.wrapping_sub_u32 in
     let x = c.get_unit-x in
-    differencing_turn c.loop-left.invariant (omega arith) v.result x.ensures.0 x.ensures.1 v.ensures.value c.put_unit.ensures
+    differencing_turn c.loop-left.invariant (omega arith) v.result x.ensures.0 x.ensures.1
+    v.ensures.value c.put_unit.ensures
 
 pub returns : goal.returns
 returns c = differencing_done c.loop-left.invariant (omega arith)

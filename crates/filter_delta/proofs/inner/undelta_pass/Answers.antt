@@ -7,7 +7,8 @@ loop-left-init c = search passes
 
 pub loop-left-preserved : goal.loop-left-preserved
 loop-left-preserved c =
-    summing_turn c.loop-left.invariant (omega arith) c.get_unit.ensures.0 c.wrapping_add_u32-p.ensures.value c.put_unit.ensures
+    summing_turn c.loop-left.invariant (omega arith) c.get_unit.ensures.0
+    c.wrapping_add_u32-p.ensures.value c.put_unit.ensures
 
 pub returns-clause-bytes_after : goal.returns-clause-bytes_after
 returns-clause-bytes_after c = (summing_done c.loop-left.invariant (omega arith)).0

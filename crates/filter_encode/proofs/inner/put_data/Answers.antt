@@ -24,19 +24,22 @@ pub returns-in-Delta : goal.returns-in-Delta
 unfolding encoded_data
 returns-in-Delta c =
     let a = c.args in
-    data_put a.level a.follow.now a.source.now c.header_length-start.ensures.0 c.in-Delta.is a.out.now c.put_delta.ensures
+    data_put a.level a.follow.now a.source.now c.header_length-start.ensures.0
+    c.in-Delta.is a.out.now c.put_delta.ensures
 
 pub returns-in-Narrow : goal.returns-in-Narrow
 unfolding encoded_data
 returns-in-Narrow c =
     let a = c.args in
-    data_put a.level a.follow.now a.source.now c.header_length-start.ensures.0 c.in-Narrow.is a.out.now c.put_narrowed.ensures
+    data_put a.level a.follow.now a.source.now c.header_length-start.ensures.0
+    c.in-Narrow.is a.out.now c.put_narrowed.ensures
 
 pub returns-in-Follow : goal.returns-in-Follow
 unfolding encoded_data
 returns-in-Follow c =
     let a = c.args in
-    data_put a.level a.follow.now a.source.now c.header_length-start.ensures.0 c.in-Follow.is a.out.now c.put_followed.ensures
+    data_put a.level a.follow.now a.source.now c.header_length-start.ensures.0
+    c.in-Follow.is a.out.now c.put_followed.ensures
 
 pub returns-in-Raw : goal.returns-in-Raw
 returns-in-Raw c = no_filter _ _ c.in-Raw.is refl c.requires.1

@@ -15,7 +15,8 @@ pub loop-left-preserved : goal.loop-left-preserved
 loop-left-preserved c =
     let u = c.get_unit in
     let k = c.put_narrow-to in
-    narrowing_more c.loop-left.invariant c.loop-left-test.true u.result u.ensures.0 k.result k.new.out k.ensures.0 k.ensures.1
+    narrowing_more c.loop-left.invariant c.loop-left-test.true u.result u.ensures.0 k.result k.new.out
+    k.ensures.0 k.ensures.1
 
 pub returns : goal.returns
 returns c = narrowing_done c.loop-left.invariant (omega arith)

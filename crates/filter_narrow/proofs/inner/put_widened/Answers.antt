@@ -16,7 +16,8 @@ put_unit-requires c = search widening
 pub loop-from-preserved-then-byte : goal.loop-from-preserved-then-byte
 loop-from-preserved-then-byte c =
     let u = c.get_unit in
-    long_more c.loop-from.invariant c.loop-from-test.true c.if-byte.true u.result c.put_unit.new.bytes u.ensures.0 c.put_unit.ensures
+    long_more c.loop-from.invariant c.loop-from-test.true c.if-byte.true u.result
+    c.put_unit.new.bytes u.ensures.0 c.put_unit.ensures
 
 pub put_unit-requires-else-byte : goal.put_unit-requires-else-byte
 put_unit-requires-else-byte c = search widening

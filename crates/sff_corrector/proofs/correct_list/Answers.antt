@@ -25,8 +25,9 @@ pub returns-in-Out : goal.returns-in-Out
 returns-in-Out c =
     let e = c.carry_first-carried.ensures in
     let r = c.run.ensures in
+    let whole = c.if-list-ne0.false in
     let some = c.if-n-eq0.false in
-    let d = first_run _ _ _ c.if-list-ne0.false some _ e.result_value e.buffer_after c.in-Out.is r.value r.buffer_after in
+    let d = first_run _ _ _ whole some _ e.result_value e.buffer_after c.in-Out.is r.value r.buffer_after in
     record { value = d.0; buffer_after = d.1 }
 
 pub returns-in-Stopped : goal.returns-in-Stopped

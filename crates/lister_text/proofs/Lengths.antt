@@ -1,11 +1,8 @@
 -- A listing has at most seven bytes for each byte of an accepted file, and a refusal has a short line. Assumes nothing.
-use Prim.Native.Nat.{ℕ, suc, ◌+◌, ◌-◌, ◌*◌, ◌/◌, ◌≤◌, ◌<◌}
+use Prim.Native.Nat.{ℕ, suc, ◌+◌, ◌*◌, ◌≤◌}
 use mathlib.Core.Path.{◌≡◌, refl, ap}
-use mathlib.Core.Bool.{Bool, true, false, not}
 use mathlib.Core.List.{List, [], ◌∷◌}
 use native.Mathlib.Omega.{arith}
-use lib.Dec.{ltb, leb}
-use borrow.Author.Tests.{ltb-true, ltb-false, lt-ltb, le-leb, lt-leb}
 use lib.ListN.{length, length-append, length-take, length-drop}
 use Rattle.octets.specs.Parts.{insert_at}
 use Rattle.octets.specs.Numbers.{Bytes}
@@ -56,14 +53,3 @@ listing_short b y = go (file_test b) refl
     go : (a : Answer) → file_test b ≡ a → length (listed a b) ≤ 7 * length b + 64
     go Accepted e = let s = file_short (parse b) in let t = file_laid b y e in omega (arith, ap length t)
     go (Refused n p) e = let s = refusal_line_short n p in omega arith
-
--- what `has_room` tests, which cannot wrap, is that the room is enough
-pub no_room_lem : (n room : ℕ) → room < 64 → false ≡ not (ltb room (enough n))
-no_room_lem n room h = rw (lt-ltb room (enough n) (omega arith))
-
-pub room_is : (n room : ℕ) → 64 ≤ room → leb n ((room - 64) / 7) ≡ not (ltb room (enough n))
-room_is n room h = go (ltb room (enough n)) refl
-  where
-    go : (t : Bool) → ltb room (enough n) ≡ t → leb n ((room - 64) / 7) ≡ not t
-    go true e = let l = ltb-true room (enough n) e in lt-leb n ((room - 64) / 7) (omega arith)
-    go false e = let l = ltb-false room (enough n) e in le-leb n ((room - 64) / 7) (omega arith)

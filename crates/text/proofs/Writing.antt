@@ -6,8 +6,7 @@ use native.Mathlib.Omega.{arith}
 use borrow.Author.Rules.{rules}
 use borrow.Author.Tests.{eq-eqb, ne_eqb}
 use lib.ListN.{length, set, length-append}
-use lib.Seq.{take-length}
-use Rattle.octets.specs.Parts.{part, put_at}
+use Rattle.octets.specs.Parts.{put_at}
 use Rattle.octets.proofs.Lists.{put_nil, put_put, put_sets, length_put}
 use Rattle.text.specs.Writing.{Room, or_dash}
 
@@ -19,15 +18,12 @@ Wrote at xs l l' r = (r ≡ at + length xs) × (l' ≡ put_at at xs l)
 pub room_both : (xs ys l : List ℕ) → length xs + length ys ≤ length l → Room 0 (xs ++ ys) l
 room_both xs ys l h = let e = length-append xs ys in record { fits = omega (arith, e) }
 
--- nothing, a byte, bytes
+-- nothing, a byte
 pub wrote_none : (at : ℕ) (l : List ℕ) → Wrote at [] l l at
 wrote_none at l = (omega arith, sym (put_nil at l))
 
 pub wrote_byte : (at x : ℕ) (l : List ℕ) → Room at (x ∷ []) l → Wrote at (x ∷ []) l (set l at x) (at + 1)
 wrote_byte at x l h = (refl, put_sets (x ∷ []) l at h.fits)
-
-pub wrote_bytes : (at : ℕ) (xs l l' : List ℕ) → l' ≡ put_at at (part 0 (length xs) xs) l → Wrote at xs l l' (at + length xs)
-wrote_bytes at xs l l' e = (refl, rw take-length at e)
 
 -- a piece after a piece
 pub wrote_then : (at : ℕ) (xs ys l : List ℕ) {l' l'' : List ℕ} {p q : ℕ}

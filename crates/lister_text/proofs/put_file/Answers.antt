@@ -19,7 +19,8 @@ use Rattle.lister_text.proofs.put_file.Goals as goal
 lines : (b : List ℕ) (h : Header) (key : List ℕ) → file_test b ≡ Accepted → h ≡ header_of b
     → key ≡ whole_part (31 + h.flows) h.key_length b
     → file_lines (parse b) ≡ header_line h.flows key h.reads ++ lines_from 0 (parse b).reads
-lines b h key e is k = lines_are b e _ _ _ _ (sym (flows_of h b is)) (sym (key_length_of h b is)) (sym (reads_of h b is)) k
+lines b h key e is k =
+    lines_are b e _ _ _ _ (sym (flows_of h b is)) (sym (key_length_of h b is)) (sym (reads_of h b is)) k
 
 pub header_fields-header-requires : goal.header_fields-header-requires
 header_fields-header-requires c = header_whole _ c.requires

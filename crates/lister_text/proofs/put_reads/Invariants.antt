@@ -9,7 +9,8 @@ use Rattle.lister_text.proofs.put_reads.Given as goal
 
 abbrev pub invariant-loop-position : goal.invariant-loop-position
 invariant-loop-position l =
-    Listing l.file l.position l.boundary (λ rest. Coming l.at (lines_from 0 (parse l.file).reads) l.initial.out l.next rest l.out)
+    Listing l.file l.position l.boundary
+    (λ rest. Coming l.at (lines_from 0 (parse l.file).reads) l.initial.out l.next rest l.out)
 
 abbrev pub decreases-loop-position : goal.decreases-loop-position
 decreases-loop-position l = l.reads - l.position

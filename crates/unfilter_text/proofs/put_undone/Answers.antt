@@ -27,4 +27,5 @@ returns c =
 pub clear_behind-requires : goal.clear_behind-requires
 clear_behind-requires c =
     let put = c.write_refusal-written.ensures in
-    (counted (refusal_line c.in-Refused.number c.in-Refused.place) c.undo-result.new.first (put.value, put.out_after)).1.1.0
+    let text = refusal_line c.in-Refused.number c.in-Refused.place in
+    (counted text c.undo-result.new.first (put.value, put.out_after)).1.1.0

@@ -3,14 +3,6 @@ use Rattle.lines.specs.Lines.{refusal_line}
 use Rattle.text.proofs.Writing.{two, two_all}
 use Rattle.lines.proofs.inner.put_refusal_line.Goals as goal
 
-pub put_labelled_number-next-requires : goal.put_labelled_number-next-requires
-unfolding refusal_line
-put_labelled_number-next-requires c = search two
-
-pub put_labelled_number-requires : goal.put_labelled_number-requires
-unfolding refusal_line
-put_labelled_number-requires c = search two
-
 -- first the promise: a wrong line may fit as well
 pub returns : goal.returns
 unfolding refusal_line
@@ -19,3 +11,11 @@ returns c =
     (c.put_labelled_number-next.ensures.value, c.put_labelled_number-next.ensures.out_after)
     (c.put_labelled_number.ensures.value, c.put_labelled_number.ensures.out_after) in
     record { value = w.0; out_after = w.1 }
+
+pub put_labelled_number-next-requires : goal.put_labelled_number-next-requires
+unfolding refusal_line
+put_labelled_number-next-requires c = search two
+
+pub put_labelled_number-requires : goal.put_labelled_number-requires
+unfolding refusal_line
+put_labelled_number-requires c = search two

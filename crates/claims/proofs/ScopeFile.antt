@@ -46,7 +46,7 @@ split_at_read = read_split
 pub record ReadKeeps (characters : List ℕ) (read : Read) : Type 0 where
   -- fields of 2, 4 and 2 bytes; of a name, "5 name over 65,512"
   pub name-length : length read.name ≤ 65512
-  pub base_count_lem : length read.bases ≤ 4294967295
+  pub base_count : length read.bases ≤ 4294967295
   pub clips_fit : Words (read.quality_left ∷ read.quality_right ∷ read.adapter_left ∷ read.adapter_right ∷ [])
   -- "F flow values of 2 bytes, N flow index bytes, N bases, N qualities"
   pub value_count : length read.values ≡ length characters
@@ -76,7 +76,7 @@ unfolding left_limit right_limit
 rules_of_read characters read = (
   λ v. record {
     name-length = let h = v.name_fits in omega arith;
-    base_count_lem = let h = v.bases_fit in omega arith;
+    base_count = let h = v.bases_fit in omega arith;
     clips_fit = v.clips_fit;
     value_count = v.values_count;
     values_fit = v.values_fit;
@@ -99,7 +99,7 @@ rules_of_read characters read = (
       record {
         name_good = at_every is_name_byte read.name (λ j h. (name_byte _).1 (k.name-bytes j h));
         name_fits = let h = k.name-length in omega arith;
-        bases_fit = let h = k.base_count_lem in omega arith;
+        bases_fit = let h = k.base_count in omega arith;
         clips_fit = k.clips_fit;
         quality_left_good = k.quality_left;
         quality_right_good = k.quality_right;
@@ -122,8 +122,8 @@ OneOfFour letter = (letter ≡ 65) ⊎ ((letter ≡ 67) ⊎ ((letter ≡ 71) ⊎
 -- and those of a file: `Valid`, in document 01's words
 pub record FileKeeps (content : File) : Type 0 where
   -- fields of 2, 4, 8 and 4 bytes; of the header, "5 (F+K over 65,497)"
-  pub header_length_lem : length content.flow_characters + length content.key ≤ 65497
-  pub read_count_lem : length content.reads ≤ 4294967295
+  pub header_length : length content.flow_characters + length content.key ≤ 65497
+  pub read_count : length content.reads ≤ 4294967295
   pub index_fits : (content.index.offset < 256 ^ 8) × (length content.index.bytes < 4294967296)
       × Bytes content.index.bytes
   -- "An index is absent when offset and length are both 0", else none of "just one index field is 0, or index length
@@ -143,8 +143,8 @@ rules_of_file content =
     let o = content.index.offset in
     let n = length content.index.bytes in (
       λ v. record {
-        header_length_lem = let h = v.header_fits in omega arith;
-        read_count_lem = let h = v.count_fits in omega arith;
+        header_length = let h = v.header_fits in omega arith;
+        read_count = let h = v.count_fits in omega arith;
         index_fits = v.index_fits;
         index = (index_fine o n).0 v.index_good;
         index-stands = λ h. v.index_met ((declared_exactly o n).1 (λ z. let e = z.0 in omega arith));
@@ -162,8 +162,8 @@ rules_of_file content =
             every_both is_flow_character cs content.key
             (at_every is_flow_character cs (λ j h. (flow_character _).1 (k.flow_letters j h)))
             (at_every is_flow_character content.key (λ j h. (flow_character _).1 (k.key_letters j h)));
-        header_fits = let h = k.header_length_lem in omega arith;
-        count_fits = let h = k.read_count_lem in omega arith;
+        header_fits = let h = k.header_length in omega arith;
+        count_fits = let h = k.read_count in omega arith;
         index_fits = k.index_fits;
         index_good = (index_fine o n).1 k.index;
         index_met = λ d. ⊎_elim (λ z. absurd ((declared_exactly o n).0 d z)) (λ g. k.index-stands g.0) k.index;

@@ -2,7 +2,7 @@
 
 #![tactic(auto)]
 
-ghost use Rattle.std.specs.Prelude.{◌≡◌, ◌≤◌, IfOk, IfSome, length};
+ghost use Rattle.std.specs.Prelude.{◌≡◌, ◌≤◌, IfOk, IfSome, IsUtf8, MatchResult, length};
 ghost use Rattle.text.specs.Writing.{IsPrefixLen};
 ghost use Rattle.loading.specs.Loading.{Fits};
 
@@ -42,7 +42,9 @@ pub fn argument(rt: &impl Env, i: usize, word: &mut [u8]) -> usize
 }
 
 // A file's name as the system is given it. Names are text there: of any other no file is found.
-pub fn file_name(path: &[u8]) -> io::Result<&str> {
+pub fn file_name(path: &[u8]) -> io::Result<&str>
+    ensures { MatchResult result (λ name. (name.now ≡ path.now) × IsUtf8 path.now) (λ _. ¬ (IsUtf8 path.now)) }
+{
     match str::from_utf8(path) {
         Ok(name) => Ok(name),
         Err(_) => Err(Error::from(ErrorKind::InvalidFilename)),

@@ -33,8 +33,8 @@ module _ (a rest : Answer) where
   handed_back e f = rw (← e) f
 
 pub returned : {T : Type 0} (r : Result T Refusal) (e : Refusal) → IsErr r × IsErrAnd r (λ x. x ≡ e) → answer_of r ≡ Refused (number e.0) e.1
-returned (Ok x) e (h , k) = absurd k
-returned (Err x) e (h , k) = rw k
+returned (Ok x) e (h, k) = absurd k
+returned (Err x) e (h, k) = rw k
 
 -- a condition, in front of the rest and as the last test
 module _ (t : Bool) (n p : ℕ) where

@@ -15,7 +15,12 @@ use filter_format::{Filter, Filtered};
 use octets::least;
 
 // The tests of a block in a chain, where `left` filters may still be opened.
-pub(crate) fn block_test(filter: Filter, block: &[u8], left: usize, room: usize) -> Result<(), Refusal>
+pub(crate) fn block_test(
+    filter: Filter,
+    block: &[u8],
+    left: usize,
+    room: usize,
+) -> Result<(), Refusal>
     requires { filter ≡ filter_at block.now }
     ensures { answer_of result ≡ block_test left room block.now }
 {

@@ -33,7 +33,13 @@ pub struct Found {
 }
 
 // Past an index: the read's tests; with no read left those of the file's end (13, 12), or else 33.
-fn read_or_none(file: &[u8], header: Header, place: usize, reads: usize, passed: bool) -> Result<(), Refusal>
+fn read_or_none(
+    file: &[u8],
+    header: Header,
+    place: usize,
+    reads: usize,
+    passed: bool,
+) -> Result<(), Refusal>
     requires file_value { header_test file.now ≡ Accepted }
     requires header_value { header ≡ header_of file.now }
     requires fields_fit { FieldsFit header }

@@ -130,7 +130,13 @@ pub fn no_room(file: &[u8], room: usize, place: usize, fields: Fields, record: &
 }
 
 // The first reason from 22 on against a record whose read stands at `place`, in a buffer of `room` bytes.
-pub fn reason(file: &[u8], room: usize, place: usize, fields: Fields, record: &[u8]) -> Result<(), Refusal>
+pub fn reason(
+    file: &[u8],
+    room: usize,
+    place: usize,
+    fields: Fields,
+    record: &[u8],
+) -> Result<(), Refusal>
     requires file_value { file_test file.now ≡ Accepted }
     requires record_value { record_test «record».now ≡ Accepted }
     requires fields_of { FieldsOf fields «record».now }

@@ -5,8 +5,6 @@
 ghost use Rattle.std.specs.Prelude.{◌≡◌, ◌+◌, ◌<◌};
 ghost use Rattle.sff_format.specs.Rules.{is_flow};
 
-use octets::wide;
-
 pub mod inner;
 
 // Positions over a read's bases and over a file's flows. Both count from 1; neither is ever made from the other.
@@ -19,22 +17,13 @@ pub struct BasePosition(pub usize);
 #[derive(Clone, Copy)]
 pub struct FlowPosition(pub usize);
 
-impl BasePosition {
-    fn next(self) -> Self
-        requires { self.0 < 4294967296 }
-        ensures { result.0 ≡ self.0 + 1 }
-    {
-        BasePosition(self.0 + 1)
-    }
-}
-
 impl FlowPosition {
     // The flow position of the next base: index bytes are increments.
     fn after(self, increment: u8) -> Self
         requires { self.0 < 65536 }
         ensures { result.0 ≡ self.0 + increment }
     {
-        FlowPosition(self.0 + wide(increment))
+        FlowPosition(self.0 + increment as usize)
     }
 
     fn within(self, flows: usize) -> bool

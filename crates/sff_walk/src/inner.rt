@@ -24,6 +24,7 @@ fn walked_count(increments: &[u8], mut flow: FlowPosition, flows: usize) -> usiz
 }
 
 // Whether a base may stand at a flow position.
+#[tactic(auto, unfolding(sff_format::specs::Rules::base_matches))]
 fn base_matches(characters: &[u8], flow: FlowPosition, base: u8) -> bool
     requires { (1 ≤ flow.0) × (flow.0 ≤ length characters.now) }
     ensures { result ≡ base_matches characters.now flow.0 base }
@@ -31,9 +32,9 @@ fn base_matches(characters: &[u8], flow: FlowPosition, base: u8) -> bool
     (base == characters[flow.0 - 1]) | (base == b'N')
 }
 
-// The flow walk (10) and, in the same pass, the bases (11), to the place of the first base that breaks the walk or is
-// not its flow's character, or the end. Any 10 comes before any 11, so behind a wrong base the rest of the walk is
-// tested first. Places count from the first increment, as though the bases came after them.
+// The flow walk (10) and, in the same pass, the bases (11), to the first base that breaks the walk or is not its flow's
+// character. Any 10 comes before any 11, so behind a wrong base the rest of the walk is tested first. Places count from
+// the first increment, as though the bases came after them.
 pub fn bases_test(characters: &[u8], increments: &[u8], bases: &[u8]) -> Result<(), Refusal>
     requires { (length characters.now < 65536) × (length increments.now ≡ length bases.now) × (length bases.now < 4294967296) }
     ensures { answer_of result ≡ bases_test characters.now increments.now bases.now }

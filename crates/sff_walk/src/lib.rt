@@ -10,7 +10,7 @@ pub mod inner;
 // Positions over a read's bases and over a file's flows. Both count from 1; neither is ever made from the other.
 
 // A base of a read; 0 is before the first, and as a clip "not computed".
-#[derive(Clone, Copy)]
+#[derive(Clone, Copy, Debug, PartialEq, PartialOrd)]
 pub struct BasePosition(pub usize);
 
 // A flow of a file; 0 is before the first.
@@ -26,9 +26,10 @@ impl FlowPosition {
         FlowPosition(self.0 + increment as usize)
     }
 
+    #[tactic(auto, unfolding(sff_format::specs::Rules::is_flow))]
     fn within(self, flows: usize) -> bool
         ensures { result ≡ is_flow flows self.0 }
     {
-        (1 <= self.0) & (self.0 <= flows)
+        (1..=flows).contains(&self.0)
     }
 }

@@ -119,12 +119,13 @@ impl<'a> HeadedFile<'a> {
         is_declared(self.index_offset(), self.index_length())
     }
 
-    // The room that an index of the stated length occupies.
+    // The room that an index of the stated length occupies. A place in the file and this size have a sum.
     #[tactic(auto, unfolding(sff_format::specs::Rules::index_size))]
     pub fn index_size(&self) -> usize
-        ensures { (result ≡ index_size (index_length self.now)) × (result < 4294967296) }
+        ensures value { result ≡ index_size (index_length self.now) }
+        ensures fits { length self.now + result < 18446744073709551616 }
     {
-        self.index_length()
+        self.index_length as usize
     }
 }
 

@@ -16,7 +16,7 @@ use octets::{ByteTest, fails};
 use sff_clips::inner::clip_test;
 use sff_file::file_test;
 use sff_format::Clips;
-use sff_header::inner::{header_fields, is_declared};
+use sff_header::HeadedFile;
 use sff_sections::NewRead;
 use sff_sections::inner::{header_size, put_new_header};
 use sff_walk::BasePosition;
@@ -103,11 +103,11 @@ fn open_test(file: &[u8]) -> Result<(), Refusal>
     ensures { answer_of result ≡ open_test file.now }
 {
     file_test(file)?;
-    let header = header_fields(file);
-    if is_declared(header.index_offset, header.index_length) {
+    let headed = HeadedFile::new(file);
+    if headed.has_index() {
         return Err(Refusal(Cause::IndexPresent, 0));
     }
-    if header.reads == MOST_READS {
+    if headed.reads() == MOST_READS {
         return Err(Refusal(Cause::ReadCount, 0));
     }
     Ok(())

@@ -4,7 +4,7 @@
 -- definitions.
 use Rattle.std.specs.Prelude.{ℕ, List, [], ◌∷◌, length, replicate}
 use Rattle.octets.specs.Parts.{put_at, filled}
-use Rattle.answers.specs.declared.Answer.{Answer}
+use Rattle.answers.specs.Answer.{Answer}
 use Rattle.sff_format.specs.declared.ReadView.{ReadView}
 use Rattle.sff_format.specs.Model.{Read}
 use Rattle.sff_format.specs.HeaderTest.{header_test}
@@ -14,7 +14,7 @@ use Rattle.sff_format.specs.Step.{State, step_answer, step}
 use Rattle.sff_format.specs.Position.{position_test, signal_test}
 use Rattle.sff_format.specs.Writing.{new_outcome, new_buffer, append_outcome, append_buffer}
 use Rattle.sff_format.specs.Numbers.{header_numbers, file_numbers, view_numbers, step_numbers, position_numbers, signal_numbers, new_numbers, append_numbers}
-use Rattle.correction_format.specs.declared.ListOutcome.{ListOutcome}
+use Rattle.correction_format.specs.ListRun.{ListOutcome}
 use Rattle.correction_format.specs.Record.{record_test}
 use Rattle.correction_format.specs.Correct.{correct_outcome, correct_buffer}
 use Rattle.correction_format.specs.ListRun.{first_records, run_list}
@@ -73,8 +73,7 @@ pub data Call : Type 0 where
   signal : List ℕ → ℕ → Call
   -- `sff_writer::new_file(buffer, flows, key)`
   new_file : List ℕ → List ℕ → List ℕ → Call
-  -- `sff_writer::append(buffer, file_length, name, clips, values, increments, bases, qualities)`: the read is one value
-  -- here
+  -- `sff_writer::append(buffer, file_length, read)`: here the read's own lists, and not slices of them
   append : List ℕ → ℕ → Read → Call
   -- `sff_record::record_test(record)`
   record_test_call : List ℕ → Call

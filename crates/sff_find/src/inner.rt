@@ -25,11 +25,9 @@ fn seek(file: &[u8], header: Header, from: Boundary, behind: usize, position: us
     ensures { (result ≡ read_place file.now position) × (result + 16 ≤ length file.now) }
 {
     let mut at = from;
-    let mut passed = behind;
-    while passed < position {
+    for _passed in behind..position {
         let start = past_index(file, header, at);
         at = next_boundary(file, header, start);
-        passed += 1;
     }
     past_index(file, header, at).place
 }

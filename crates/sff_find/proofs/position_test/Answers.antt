@@ -10,12 +10,12 @@ pub returns-in_err-file_test : goal.returns-in_err-file_test
 unfolding position_test
 returns-in_err-file_test c = search (handed_back, returned, c.in_err-file_test.ensures)
 
-pub header_fields-requires : goal.header_fields-requires
-header_fields-requires c = file_31 _ (sym c.in_ok-file_test.ensures)
+pub new-requires : goal.new-requires
+new-requires c = file_31 _ (sym c.in_ok-file_test.ensures)
 
-pub returns-then-position-header_fields : goal.returns-then-position-header_fields
-returns-then-position-header_fields c =
-    none_there _ (sym c.in_ok-file_test.ensures) c.header_fields.ensures.value _ c.if-position-header_fields.true
+pub returns-then-position-reads : goal.returns-then-position-reads
+returns-then-position-reads c =
+    none_there _ (sym c.in_ok-file_test.ensures) (rw c.new.ensures at c.reads.ensures.0) _ c.if-position-reads.true
 
 pub returns : goal.returns
-returns c = one_there _ (sym c.in_ok-file_test.ensures) c.header_fields.ensures.value _ c.if-position-header_fields.false
+returns c = one_there _ (sym c.in_ok-file_test.ensures) (rw c.new.ensures at c.reads.ensures.0) _ c.if-position-reads.false

@@ -4,8 +4,8 @@ use Rattle.sff_format.specs.Places.{read_place}
 use Rattle.sff_format.proofs.Walks.{walk_place, walk_begins, walk_next}
 use Rattle.sff_find.proofs.inner.seek.Goals as goal
 
-pub next_boundary-at-requires-clause-place_in_bounds : goal.next_boundary-at-requires-clause-place_in_bounds
-next_boundary-at-requires-clause-place_in_bounds c =
+pub next_boundary-at-requires : goal.next_boundary-at-requires
+next_boundary-at-requires c =
     walk_begins c.loop-passed.invariant c.past_index-start.ensures (omega arith)
 
 pub loop-passed-preserved : goal.loop-passed-preserved

@@ -9,12 +9,17 @@ use Rattle.sff_find.proofs.Chosen.{file_31}
 use Rattle.sff_find.proofs.inner.find_on.Goals as goal
 
 pub new-headed-requires : goal.new-headed-requires
-new-headed-requires c = file_31 _ c.requires.file_value
+new-headed-requires c = search file_31
 
 pub seek-requires-clause-walk : goal.seek-requires-clause-walk
 seek-requires-clause-walk c =
     let a = c.args in
     let bytes = bytes_of_lem a.file.now (λ j. (c.type_inv.file j).fits) in
     let below : a.from.position < read_count a.file.now = omega (arith, c.requires.position_bound) in
-    let walk = walk_at _ c.requires.file_value bytes _ below (c.requires.marked.known below) in
-    rw (c.boundary_at.ensures, c.new-headed.ensures) walk
+    rw (c.boundary_at.ensures, c.new-headed.ensures) (walk_at _ c.requires.file_value bytes _ below (c.requires.marked.known below))
+
+pub seek-requires-clause-behind_le_position : goal.seek-requires-clause-behind_le_position
+seek-requires-clause-behind_le_position c = rw c.new-headed.ensures (omega arith, c.requires.position_bound)
+
+pub returns : goal.returns
+returns c = rw (← c.new-headed.ensures) c.seek.ensures

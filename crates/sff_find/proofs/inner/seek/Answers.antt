@@ -1,3 +1,4 @@
+-- The walk goes on by one read at each turn; where it stands at the position, the read that begins there is the one.
 use mathlib.Core.Path.{◌≡◌, ap, ◌∙◌}
 use native.Mathlib.Omega.{arith}
 use Rattle.sff_format.specs.Places.{read_place}

@@ -24,13 +24,14 @@ overflow_add-next c =
     let small = reads_small _ bytes (fits_31 _ (header_accepted _ _ c.requires)) in
     omega (arith, one_left _ _ c.requires, small)
 
-pub read_view-requires : goal.read_view-requires
-read_view-requires c =
-    (found_begins _ _ c.requires (rw (c.boundary.ensures, c.new-headed.ensures) at c.past_index-start.ensures), c.flows.ensures.1)
+pub view_at-requires : goal.view_at-requires
+view_at-requires c =
+    rw c.new-headed.ensures
+    (found_begins _ _ c.requires (rw (c.boundary.ensures, c.new-headed.ensures) at c.past_index-start.ensures))
 
 pub returns : goal.returns
 returns c =
     found_is _ _ c.requires
     (rw (c.boundary.ensures, c.new-headed.ensures) at c.past_index-start.ensures)
     (rw c.new-headed.ensures at c.next_boundary-after.ensures)
-    (rw (c.flows.ensures.0, c.new-headed.ensures) at c.read_view.ensures)
+    (rw c.new-headed.ensures at c.view_at.ensures)

@@ -1,5 +1,5 @@
 -- The laws of decimal digits: one more digit, how many there are, and the number that they spell. Assumes nothing.
-use mathlib.Core.Path.{◌≡◌, refl, sym, ap, ◌∙◌}
+use mathlib.Core.Path.{◌≡◌, refl, ap, ◌∙◌}
 use mathlib.Core.List.{List, [], ◌∷◌, ◌++◌}
 use mathlib.Core.Bool.{Bool, true, false, cond}
 use Prim.Native.Nat.{ℕ, zero, suc, ◌+◌, ◌-◌, ◌*◌, ◌/◌, ◌%◌, ◌^◌, ◌≤◌, ◌<◌}
@@ -27,7 +27,7 @@ module _ (k n : ℕ) (h : k ≡ 0 → ⊥) where
   unfolding decimal_of
   more_digits f = ap (λ (i : ℕ). decimal_of i n) some ∙ rw (le-ltb n 10 f)
 
-digits_short : (k n : ℕ) → length (decimal_of k n) ≤ k
+pub digits_short : (k n : ℕ) → length (decimal_of k n) ≤ k
 unfolding decimal_of
 digits_short zero n = omega arith
 digits_short (suc k) n = go (ltb n 10) refl (digits_short k (n / 10))
@@ -36,22 +36,11 @@ digits_short (suc k) n = go (ltb n 10) refl (digits_short k (n / 10))
     go true e h = rw e (omega arith)
     go false e h = rw (e, length-append) (omega (arith, h))
 
--- what `count_digits` counts
-pub counted_none : (k n : ℕ) → k ≡ 0 → 0 ≡ length (decimal_of k n)
-unfolding decimal_of
-counted_none k n e = rw e
-
-pub counted_one : (k n : ℕ) → (k ≡ 0 → ⊥) → n < 10 → 1 ≡ length (decimal_of k n)
-counted_one k n h f = rw (one_digit k n h f)
-
-pub counted-more : (k n : ℕ) → (k ≡ 0 → ⊥) → 10 ≤ n → {r : ℕ} → r ≡ length (decimal_of (k - 1) (n / 10)) → r + 1 ≡ length (decimal_of k n)
-counted-more k n h f e = rw (e, more_digits k n h f, length-append)
-
-pub counted_short : (k n : ℕ) {r : ℕ} → r ≡ length (decimal_of k n) → r ≤ k
-counted_short k n e = rw e (digits_short k n)
-
 pub decimal_short : (n : ℕ) → length (decimal n) ≤ 20
 decimal_short n = digits_short 20 n
+
+-- what counts the digits needs
+pub ruleset counted = (no_digit, one_digit, more_digits, digits_short, length-append)
 
 -- the number that a, followed by the decimal digits xs, spells
 unfoldable pub spelt : ℕ → List ℕ → ℕ

@@ -6,7 +6,6 @@ use native.Mathlib.Omega.{arith}
 use borrow.Author.Rules.{rules}
 use borrow.Author.Tests.{eq-eqb, ne_eqb}
 use lib.ListN.{length, length-append}
-use Rattle.octets.specs.Parts.{put_at}
 use Rattle.octets.proofs.Lists.{put_nil, put_put, length_put}
 use Rattle.text.specs.declared.inner.TextWriter.{TextWriter}
 use Rattle.text.specs.Writing.{or_dash}

@@ -1,6 +1,6 @@
 -- A word of text, and a text that is measured. Assumes nothing: these are
 -- definitions.
-use Rattle.std.specs.Prelude.{Result, Ok, Err, ℕ, ◌≡◌, ◌+◌, ◌≤◌, cond, List, [], ◌∷◌, length, take, eqb, ltb}
+use Rattle.std.specs.Prelude.{Result, Ok, Err, ℕ, ◌≡◌, ◌≤◌, cond, List, [], ◌∷◌, length, take, eqb, ltb}
 use Rattle.answers.specs.declared.Refusal.{Refusal}
 use Rattle.answers.specs.Causes.{number}
 use Rattle.answers.specs.Answer.{Answer, Accepted, Refused, when, accepted_or}

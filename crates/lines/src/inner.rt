@@ -1,7 +1,8 @@
 // The lines that the programs print, each a text that is measured and put field by field.
 ghost use Rattle.std.specs.Prelude.{◌≡◌};
 ghost use Rattle.text.specs.Writer.{HasRoom, Puts};
-ghost use Rattle.lines.specs.Lines.{number_field, word_field, labelled_number, labelled_word, header_line, extent, read_line, refusal_line, too_long, answer_line};
+ghost use Rattle.lines.specs.Lines.{number_field, word_field, labelled_number, labelled_word, extent, refusal_line, too_long, answer_line};
+ghost use Rattle.lines.specs.Texts.{header_text, read_text};
 ghost use Rattle.answers.specs.Causes.{number};
 
 use answers::Refusal;
@@ -62,7 +63,7 @@ pub struct HeaderLine<'a> {
 }
 
 impl Text for HeaderLine<'_> {
-    ghost text = { λ line. header_line line.flows line.key.now line.reads };
+    ghost text = { header_text };
 
     #[tactic(auto, using(crate::proofs::Lengths::header_line_length))]
     fn left_of(&self, room: usize) -> Option<usize> {
@@ -90,7 +91,7 @@ pub struct ReadLine<'a> {
 }
 
 impl Text for ReadLine<'_> {
-    ghost text = { λ line. read_line line.position line.name.now line.bases line.first line.last line.insert.now };
+    ghost text = { read_text };
 
     #[tactic(auto, using(crate::proofs::Lengths::read_line_length))]
     fn left_of(&self, room: usize) -> Option<usize> {

@@ -2,7 +2,7 @@
 // header and know that the place lies in the file: hence each `requires`.
 ghost use Rattle.std.specs.Prelude.{◌≡◌, ◌+◌, ◌≤◌, length};
 ghost use Rattle.answers.specs.Answer.{answer_of};
-ghost use Rattle.sff_format.specs.FileTest.{index_due, pass_test, end_test};
+ghost use Rattle.sff_format.specs.FileTest.{index_due, pass_test, index_test, end_test};
 ghost use Rattle.sff_format.specs.Walk.{first_boundary, read_start, next_boundary, boundary_at};
 ghost use Rattle.sff_header.specs.Header.{header_of, FieldsFit};
 
@@ -29,6 +29,20 @@ pub fn pass_test(file: &[u8], header: Header, place: usize) -> Result<(), Refusa
 {
     if file.len() < place + index_size(header.index_length) {
         return Err(Refusal(Cause::CutShort, place));
+    }
+    Ok(())
+}
+
+// An index that is due at a boundary and cut short (1).
+pub fn index_test(file: &[u8], header: Header, at: Boundary) -> Result<(), Refusal>
+    requires header_value { header ≡ header_of file.now }
+    requires fields_fit { FieldsFit header }
+    requires place_in_bounds { at.place ≤ length file.now }
+    ensures { answer_of result ≡ index_test file.now at.place at.passed }
+{
+    let Boundary { place, passed } = at;
+    if index_due(header, place, passed) {
+        return pass_test(file, header, place);
     }
     Ok(())
 }

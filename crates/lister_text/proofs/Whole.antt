@@ -50,3 +50,6 @@ enough_room b room y e is h =
     let l : length (file_lines (parse b)) ≤ enough (length b) = rw (listing-accepted b e) at (listing_short b y) in
     let m = ltb-false room (enough (length b)) (not-true _ (sym is ∙ h)) in
     omega arith
+
+-- what a listing is in each case
+pub ruleset listings = (listing-accepted, listing_refused)

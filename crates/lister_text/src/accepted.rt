@@ -1,5 +1,5 @@
 // The lines of an accepted file, as a text that is measured and put.
-ghost use Rattle.std.specs.Prelude.{◌≡◌, ◌++◌};
+ghost use Rattle.std.specs.Prelude.{ℕ, ◌≡◌, ◌<◌, ◌++◌, slice_index_or};
 ghost use Rattle.answers.specs.Answer.{Accepted};
 ghost use Rattle.sff_format.specs.FileTest.{file_test};
 ghost use Rattle.sff_format.specs.Parse.{parse};
@@ -24,12 +24,14 @@ use text::inner::{Text, TextWriter};
 pub struct FileLines<'a> {
     file: &'a [u8],
     header: Header,
+    ghost bytes: { (i : ℕ) → slice_index_or file.now i 0 < 256 },
     ghost accepted: { file_test file.now ≡ Accepted },
     ghost header_value: { header ≡ header_of file.now },
     ghost fields_fit: { FieldsFit header },
 }
 
 impl<'a> FileLines<'a> {
+    #[tactic(auto, using(crate::proofs::Whole::header_whole))]
     pub fn new(file: &'a [u8]) -> FileLines<'a>
         requires { file_test file.now ≡ Accepted }
         ensures { result.file.now ≡ file.now }
@@ -51,6 +53,7 @@ impl<'a> FileLines<'a> {
     }
 
     // A read's line.
+    #[tactic(auto, unfolding(crate::specs::Listing::view_line))]
     fn read_line(&self, position: usize, view: ReadView) -> ReadLine<'a>
         ensures { read_text result ≡ view_line self.now.file.now position view }
     {

@@ -26,6 +26,7 @@ pub fn has_room(size: usize, room: usize) -> bool
 }
 
 // Puts the listing of any bytes at the front of `out`, and answers its length; 26 exactly if `out` is shorter.
+#[tactic(auto, using(crate::proofs::Whole::listings))]
 pub fn list(file: &[u8], out: &mut [u8]) -> Result<usize, Refusal>
     ensures value { written_of result ≡ written (fitted (length out.old) (listing file.now)) }
     ensures out_after { out.new ≡ put_at 0 (fitted (length out.old) (listing file.now)).text out.old }
@@ -38,6 +39,7 @@ pub fn list(file: &[u8], out: &mut [u8]) -> Result<usize, Refusal>
 }
 
 // Puts what the lister prints of an input; 26 likewise.
+#[tactic(auto, using(crate::proofs::Printed::printed_long, crate::proofs::Printed::printed_short))]
 pub fn print(input: &[u8], out: &mut [u8]) -> Result<usize, Refusal>
     ensures value { written_of result ≡ written (fitted (length out.old) (printed input.now)) }
     ensures out_after { out.new ≡ put_at 0 (fitted (length out.old) (printed input.now)).text out.old }

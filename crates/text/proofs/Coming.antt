@@ -1,5 +1,5 @@
 -- A text that a loop puts piece by piece, or measures so. Assumes nothing.
-use mathlib.Core.Path.{◌≡◌, refl, ◌∙◌}
+use mathlib.Core.Path.{◌≡◌, refl, sym, ap, ◌∙◌}
 use mathlib.Core.List.{List, [], ◌++◌, append_assoc, append-nil}
 use Prim.Native.Nat.{ℕ, ◌+◌, ◌-◌, ◌≤◌, ◌<◌}
 use native.Mathlib.Omega.{arith}
@@ -15,8 +15,8 @@ pub record Coming (whole : List ℕ) (w₀ : TextWriter) (w : TextWriter) (rest 
   pub put : Puts done w₀ w
   pub room : HasRoom whole w₀
 
-pub coming_start : {whole : List ℕ} {w : TextWriter} → HasRoom whole w → Coming whole w w whole
-coming_start {whole} {w} r = record { done = []; all = refl; put = puts_none w; room = r }
+pub coming_start : {whole : List ℕ} (pieces : List ℕ) {w : TextWriter} → HasRoom whole w → whole ≡ pieces → Coming whole w w pieces
+coming_start pieces {w} r e = record { done = []; all = sym e; put = puts_none w; room = r }
 
 module _ {whole : List ℕ} {w₀ w : TextWriter} where
   -- xs is the next piece
@@ -37,8 +37,8 @@ module _ {whole : List ℕ} {w₀ w : TextWriter} where
 pub record RoomLeft (room : ℕ) (whole : List ℕ) (left : ℕ) (rest : List ℕ) : Type 0 where
   pub is : left + length whole ≡ room + length rest
 
-pub room_left_start : (room : ℕ) (whole : List ℕ) → RoomLeft room whole room whole
-room_left_start room whole = record { is = refl }
+pub room_left_start : (room : ℕ) {whole : List ℕ} (pieces : List ℕ) → whole ≡ pieces → RoomLeft room whole room pieces
+room_left_start room pieces e = record { is = ap (λ (xs : List ℕ). room + length xs) e }
 
 module _ {room : ℕ} {whole : List ℕ} {left : ℕ} where
   -- xs is the next piece, for which there is room or not

@@ -1,6 +1,6 @@
 -- The loop over the boundaries: what is still to be asked decides. Assumes nothing.
 use Prim.Native.Nat.{ℕ, zero, suc, ◌+◌, ◌≤◌}
-use mathlib.Core.Path.{◌≡◌, sym, ◌∙◌}
+use mathlib.Core.Path.{◌≡◌, refl, sym, ◌∙◌}
 use mathlib.Core.Bool.{Bool, false, not, ◌&&◌}
 use mathlib.Core.List.{List}
 use native.Mathlib.Omega.{arith}
@@ -19,38 +19,18 @@ use Rattle.sff_format.specs.FileTest.{index_due, index_here, pass_test, index_te
 use Rattle.sff_format.proofs.HeaderLaws.{header_fits, header_sized}
 use Rattle.sff_format.proofs.ReadLaid.{fits_16}
 use Rattle.sff_format.proofs.Steps.{past_fits, read_fits}
-use Rattle.sff_header.specs.declared.Header.{Header}
-use Rattle.sff_header.specs.Header.{header_of}
-use Rattle.sff_header.proofs.Fields.{offset_of, index_length_of, reads_of, flows_of}
 
 -- the flow characters of an accepted header lie in the file
 pub characters_fit : (b : List ℕ) → header_test b ≡ Accepted → 31 + flows b ≤ length b
 characters_fit b e = let f = header_fits b e in let s = header_sized b e in omega arith
 
--- the same of the number of flows that the code has
-pub fields_fit : (h : Header) (b : List ℕ) → header_test b ≡ Accepted → h ≡ header_of b → 31 + h.flows ≤ length b
-fields_fit h b e f = rw (← (flows_of h b f)) (characters_fit b e)
-
 -- a read that is accepted has its 16 bytes
 pub read_begins : (characters b : List ℕ) (p : ℕ) → Accepted ≡ read_test characters b p → p + 16 ≤ length b
 read_begins characters b p t = fits_16 characters b p (sym t)
 
--- what the code asks of the header's fields, said of the file
-module _ (b : List ℕ) {h : Header} (e : h ≡ header_of b) where
-  pub due_is : (p : ℕ) (q : Bool) {r t : Bool} → r ≡ index_due h.index_offset h.index_length p q → r ≡ t → index_here b p q ≡ t
-  due_is p q d f = rw (offset_of h b e, index_length_of h b e) (sym d ∙ f)
-
-  -- m is the room that the index takes
-  pub pass_tested : (p : ℕ) {m : ℕ} → m ≡ index_size h.index_length
-      → {x : Answer} → x ≡ when (ltb (length b) (p + m)) 1 p → x ≡ pass_test b p
-  unfolding pass_test
-  pass_tested p f g = rw (index_length_of h b e, ← f) g
-
-  pub end_tested : (p : ℕ) (q : Bool) {x : Answer}
-      → x ≡ (when (declared h.index_offset h.index_length && not q) 13 8 then when (ltb p (length b)) 12 p)
-      → x ≡ end_test b p q
-  unfolding end_test
-  end_tested p q f = rw (offset_of h b e, index_length_of h b e) f
+-- a condition that a call gave
+pub due : {s t r : Bool} → r ≡ s → r ≡ t → s ≡ t
+due d f = sym d ∙ f
 
 -- what a boundary asks: an index that is due, then the end, or a read and what the next boundary asks
 module _ (b : List ℕ) (n p : ℕ) (q : Bool) where
@@ -72,21 +52,19 @@ module _ (b : List ℕ) (n p : ℕ) (q : Bool) where
     unfolding boundary_test ◌then◌
     read_asked = rw (← i)
 
--- n reads are left at a boundary, and what it asks is the whole answer; the code has the header's fields
-pub record SectionsInvariant (h : Header) (b : List ℕ) (whole : Answer) (n : ℕ) (at : Boundary) : Type 0 where
+-- n reads are left at a boundary, and what it asks is the whole answer
+pub record SectionsInvariant (b : List ℕ) (whole : Answer) (n : ℕ) (at : Boundary) : Type 0 where
   pub head : header_test b ≡ Accepted
-  pub fields : h ≡ header_of b
   pub fits : at.place ≤ length b
   pub is : whole ≡ boundary_test b n at.place at.passed
 
-pub sections_first : {h : Header} {b : List ℕ} → header_test b ≡ Accepted → h ≡ header_of b
-    → {at : Boundary} → at ≡ first_boundary b
-    → {n : ℕ} → n ≡ h.reads → SectionsInvariant h b (boundary_test b (read_count b) (header_length b) false) n at
-sections_first {h} {b} e f i l = rw (i, l) (record { head = e; fields = f; fits = header_fits b e; is = rw (reads_of h b f) })
+pub sections_first : {b : List ℕ} → header_test b ≡ Accepted → {at : Boundary} → at ≡ first_boundary b
+    → {n : ℕ} → n ≡ read_count b → SectionsInvariant b (boundary_test b (read_count b) (header_length b) false) n at
+sections_first {b} e i l = rw (i, l) (record { head = e; fits = header_fits b e; is = refl })
 
-module _ {h : Header} {b : List ℕ} {w : Answer} {n : ℕ} {at : Boundary} (g : SectionsInvariant h b w n at) where
-  pub sections_characters : 31 + h.flows ≤ length b
-  sections_characters = fields_fit h b g.head g.fields
+module _ {b : List ℕ} {w : Answer} {n : ℕ} {at : Boundary} (g : SectionsInvariant b w n at) where
+  pub sections_characters : 31 + flows b ≤ length b
+  sections_characters = characters_fit b g.head
 
   -- an index that is refused
   pub stop_index : {k p : ℕ} → Refused k p ≡ index_test b at.place at.passed → {x : Answer} → x ≡ Refused k p → x ≡ w
@@ -102,26 +80,18 @@ module _ {h : Header} {b : List ℕ} {w : Answer} {n : ℕ} {at : Boundary} (g :
 
     -- m reads are left after the next
     module _ {m : ℕ} (l : n ≡ suc m) where
-      asked : w ≡ (read_test (part 31 h.flows b) b start.place then boundary_test b m (read_end (flows b) b start.place) start.passed)
-      asked = rw (s, ← flows_of h b g.fields) (g.is ∙ rw l (read_asked b m at.place at.passed i))
+      asked : w ≡ (read_test (flow_characters b) b start.place then boundary_test b m (read_end (flows b) b start.place) start.passed)
+      asked = rw s (g.is ∙ rw l (read_asked b m at.place at.passed i))
 
-      pub stop_read : {k p : ℕ} → Refused k p ≡ read_test (part 31 h.flows b) b start.place → {x : Answer} → x ≡ Refused k p → x ≡ w
+      pub stop_read : {k p : ℕ} → Refused k p ≡ read_test (flow_characters b) b start.place → {x : Answer} → x ≡ Refused k p → x ≡ w
       unfolding ◌then◌
       stop_read r e = e ∙ sym (asked ∙ rw (← r))
 
-      pub sections_read : Accepted ≡ read_test (part 31 h.flows b) b start.place → {next : Boundary} → next ≡ next_boundary b start
-          → SectionsInvariant h b w m next
+      pub sections_read : Accepted ≡ read_test (flow_characters b) b start.place → {next : Boundary} → next ≡ next_boundary b start
+          → SectionsInvariant b w m next
       unfolding ◌then◌
       sections_read r e =
-          rw e
-          (
-          record {
-            head = g.head;
-            fields = g.fields;
-            fits = read_fits b g.head start.place (rw (← flows_of h b g.fields) at (sym r));
-            is = asked ∙ rw (← r);
-          }
-          )
+          rw e (record { head = g.head; fits = read_fits b g.head start.place (sym r); is = asked ∙ rw (← r) })
 
 -- what `search` needs for the walk
 pub ruleset boundaries = (sections_first, sections_characters, stop_index, past_inside, stop_end, stop_read, sections_read, read_begins, returned, rules)

@@ -10,9 +10,12 @@ pub returns-in_err-header_test : goal.returns-in_err-header_test
 unfolding file_test
 returns-in_err-header_test c = search (handed_back, returned, c.in_err-header_test.ensures)
 
-pub header_fields-requires : goal.header_fields-requires
-header_fields-requires c = fits_31 _ (sym c.in_ok-header_test.ensures)
+pub new-requires : goal.new-requires
+new-requires c = fits_31 _ (sym c.in_ok-header_test.ensures)
 
 pub returns : goal.returns
 unfolding file_test
-returns c = search (handed_on, c.in_ok-header_test.ensures)
+returns c = handed_on _ _ c.in_ok-header_test.ensures (rw c.new.ensures at c.sections_test.ensures)
+
+pub sections_test-requires : goal.sections_test-requires
+sections_test-requires c = rw c.new.ensures (sym c.in_ok-header_test.ensures)

@@ -10,4 +10,4 @@ use Rattle.sff_file.proofs.sections_test.Given as goal
 
 abbrev pub invariant-loop-passed : goal.invariant-loop-passed
 invariant-loop-passed l =
-    SectionsInvariant l.header l.file (boundary_test l.file (read_count l.file) (header_length l.file) false) (l.header.reads - l._passed) l.at
+    SectionsInvariant l.file (boundary_test l.file (read_count l.file) (header_length l.file) false) (l.reads - l._passed) l.at

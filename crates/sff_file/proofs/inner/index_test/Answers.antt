@@ -1,14 +1,12 @@
--- `index_due` tells of the header's fields what `index_here` says of the file (`due_is`): the index's test is asked
--- where one is due, and nothing elsewhere.
+-- The index's test is asked where one is due, and nothing elsewhere.
 use Rattle.sff_format.specs.FileTest.{index_test}
-use Rattle.sff_file.proofs.Sections.{due_is}
+use Rattle.sff_file.proofs.Sections.{due}
 use Rattle.sff_file.proofs.inner.index_test.Goals as goal
 
 pub returns-then-index_due : goal.returns-then-index_due
 unfolding index_test
-returns-then-index_due c =
-    rw (due_is _ c.requires.header_value _ _ c.index_due.ensures c.if-index_due.true) c.pass_test.ensures
+returns-then-index_due c = rw (due c.index_due.ensures c.if-index_due.true) c.pass_test.ensures
 
 pub returns : goal.returns
 unfolding index_test
-returns c = rw (due_is _ c.requires.header_value _ _ c.index_due.ensures c.if-index_due.false)
+returns c = rw (due c.index_due.ensures c.if-index_due.false)

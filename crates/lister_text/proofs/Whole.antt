@@ -24,16 +24,16 @@ module _ (b : List ℕ) (e : file_test b ≡ Accepted) where
   pub header_whole : 31 ≤ length b
   header_whole = fits_31 b (head_ok b e)
 
-  -- the lines of an accepted file, from its fields and its key as the code has them
-  pub lines_are : (F K n : ℕ) (key : List ℕ) → F ≡ flows b → K ≡ key_length b → n ≡ read_count b → key ≡ whole_part (31 + F) K b
+  -- the lines of an accepted file, from its numbers and its key as the code has them
+  pub lines_are : (F n : ℕ) (key : List ℕ) → F ≡ flows b → key ≡ whole_part (31 + flows b) (key_length b) b → n ≡ read_count b
       → file_lines (parse b) ≡ header_line F key n ++ lines_from 0 (parse b).reads
   unfolding file_lines parse
-  lines_are F K n key f k c w =
+  lines_are F n key f w c =
       let h = head_ok b e in
       let s = header_sized b h in
       let l = header_fits b h in
       let i : whole_part (31 + flows b) (key_length b) b ≡ key_characters b = whole_in (31 + flows b) (key_length b) b (omega arith) in
-      rw (w, f, k, c, i, characters-length b h, length_parsed b (read_count b) (header_length b) false)
+      rw (w, f, c, i, characters-length b h, length_parsed b (read_count b) (header_length b) false)
 
   pub listing-accepted : listing b ≡ file_lines (parse b)
   unfolding listing listed

@@ -3,79 +3,74 @@ ghost use Rattle.std.specs.Prelude.{ℕ, ◌≡◌, ◌<◌, ◌++◌, slice_ind
 ghost use Rattle.answers.specs.Answer.{Accepted};
 ghost use Rattle.sff_format.specs.FileTest.{file_test};
 ghost use Rattle.sff_format.specs.Parse.{parse};
-ghost use Rattle.sff_header.specs.Header.{header_of, FieldsFit};
 ghost use Rattle.lines.specs.Texts.{header_text, read_text};
 ghost use Rattle.lister_text.specs.Listing.{view_line, lines_from, file_lines};
 
 use crate::has_room;
 use lines::inner::{HeaderLine, ReadLine};
-use octets::whole_part;
 use sff_clips::{first_base, last_base};
 use sff_file::inner::first_boundary;
 use sff_find::inner::next_read;
 use sff_format::ReadView;
-use sff_header::Header;
-use sff_header::inner::header_fields;
+use sff_header::HeadedFile;
 use sff_view::{insert, name};
 use text::inner::{Text, TextWriter};
 
 // The lines of an accepted file.
-#[derive(Clone, Copy)]
+#[derive(Drop)]
 pub struct FileLines<'a> {
-    file: &'a [u8],
-    header: Header,
-    ghost bytes: { (i : ℕ) → slice_index_or file.now i 0 < 256 },
-    ghost accepted: { file_test file.now ≡ Accepted },
-    ghost header_value: { header ≡ header_of file.now },
-    ghost fields_fit: { FieldsFit header },
+    file: HeadedFile<'a>,
+    ghost bytes: { (i : ℕ) → slice_index_or file i 0 < 256 },
+    ghost accepted: { file_test file ≡ Accepted },
 }
 
 impl<'a> FileLines<'a> {
     #[tactic(auto, using(crate::proofs::Whole::header_whole))]
     pub fn new(file: &'a [u8]) -> FileLines<'a>
         requires { file_test file.now ≡ Accepted }
-        ensures { result.file.now ≡ file.now }
+        ensures { result.file ≡ file.now }
     {
-        let header = header_fields(file);
-        FileLines { file, header }
+        FileLines {
+            file: HeadedFile::new(file),
+        }
     }
 
     // The header's line.
     fn header_line(&self) -> HeaderLine<'a>
-        ensures { file_lines (parse self.now.file.now) ≡ header_text result ++ lines_from 0 (parse self.now.file.now).reads }
+        ensures { file_lines (parse self.now.file) ≡ header_text result ++ lines_from 0 (parse self.now.file).reads }
     {
-        let header = self.header;
         HeaderLine {
-            flows: header.flows,
-            key: whole_part(self.file, 31 + header.flows, header.key_length),
-            reads: header.reads,
+            flows: self.file.flows(),
+            key: self.file.key(),
+            reads: self.file.reads(),
         }
     }
 
     // A read's line.
     #[tactic(auto, unfolding(crate::specs::Listing::view_line))]
     fn read_line(&self, position: usize, view: ReadView) -> ReadLine<'a>
-        ensures { read_text result ≡ view_line self.now.file.now position view }
+        ensures { read_text result ≡ view_line self.now.file position view }
     {
+        let bytes = self.file.bytes();
         ReadLine {
             position,
-            name: name(view, self.file),
+            name: name(view, bytes),
             bases: view.bases.size,
             first: first_base(view).0,
             last: last_base(view).0,
-            insert: insert(view, self.file),
+            insert: insert(view, bytes),
         }
     }
 }
 
 impl Text for FileLines<'_> {
-    ghost text = { λ lines. file_lines (parse lines.file.now) };
+    ghost text = { λ lines. file_lines (parse lines.file) };
 
     fn left_of(&self, room: usize) -> Option<usize> {
         let mut left = self.header_line().left_of(room)?;
-        let mut boundary = first_boundary(self.file, self.header);
-        for position in 0..self.header.reads {
-            let here = next_read(self.file, self.header, position, boundary);
+        let mut boundary = first_boundary(&self.file);
+        for position in 0..self.file.reads() {
+            let here = next_read(&self.file, position, boundary);
             left = self.read_line(position, here.view).left_of(left)?;
             boundary = here.after;
         }
@@ -84,9 +79,9 @@ impl Text for FileLines<'_> {
 
     fn put(&self, writer: &mut TextWriter) {
         self.header_line().put(writer);
-        let mut boundary = first_boundary(self.file, self.header);
-        for position in 0..self.header.reads {
-            let here = next_read(self.file, self.header, position, boundary);
+        let mut boundary = first_boundary(&self.file);
+        for position in 0..self.file.reads() {
+            let here = next_read(&self.file, position, boundary);
             self.read_line(position, here.view).put(writer);
             boundary = here.after;
         }
@@ -94,6 +89,6 @@ impl Text for FileLines<'_> {
 
     // The lines are measured only where the room is not enough for any file of that length.
     fn fits(&self, room: usize) -> bool {
-        has_room(self.file.len(), room) || self.left_of(room).is_some()
+        has_room(self.file.bytes().len(), room) || self.left_of(room).is_some()
     }
 }

@@ -1,13 +1,7 @@
--- The header's fields and the key are those of the file, so that this line and the reads' are the lines of the file.
-use Rattle.std.proofs.Common.{sym}
-use Rattle.sff_header.proofs.Fields.{flows_of, key_length_of, reads_of}
+-- The numbers and the key are those of the file, so that this line and the reads' are the lines of the file.
 use Rattle.lister_text.proofs.Whole.{lines_are}
 use Rattle.lister_text.proofs.accepted.FileLines.header_line.Goals as goal
 
 pub returns : goal.returns
 returns c =
-    let lines = c.args.self.now in
-    let file = lines.file.now in
-    lines_are file lines.accepted _ _ _ _ (sym (flows_of lines.header file lines.header_value))
-    (sym (key_length_of lines.header file lines.header_value)) (sym (reads_of lines.header file lines.header_value))
-    c.whole_part.ensures
+    lines_are c.args.self.now.file c.args.self.now.accepted _ _ _ c.flows.ensures.0 c.key.ensures c.reads.ensures.0

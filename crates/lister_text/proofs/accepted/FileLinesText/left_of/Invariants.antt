@@ -7,5 +7,5 @@ use Rattle.lister_text.proofs.accepted.FileLinesText.left_of.Given as goal
 
 abbrev pub invariant-loop-position : goal.invariant-loop-position
 invariant-loop-position l =
-    Listing l.self.file.now l.position l.boundary
-    (λ rest. RoomLeft l.room (file_lines (parse l.self.file.now)) l.left rest)
+    Listing l.self.file l.position l.boundary
+    (λ rest. RoomLeft l.room (file_lines (parse l.self.file)) l.left rest)

@@ -1,6 +1,5 @@
 use Rattle.std.proofs.Common.{arith}
 use Rattle.octets.proofs.AllBytes.{bytes_of_lem}
-use Rattle.sff_header.proofs.Fields.{reads_of}
 use Rattle.text.proofs.Coming.{coming_start, coming_room, coming_put, coming_done}
 use Rattle.lister_text.specs.Listing.{lines_from, view_line}
 use Rattle.lister_text.proofs.Turns.{listing_start, listing-done, listing_next, listing-more}
@@ -10,7 +9,7 @@ use Rattle.lister_text.proofs.accepted.FileLinesText.put.Goals as goal
 pub loop-position-preserved : goal.loop-position-preserved
 loop-position-preserved c =
     let n = c.next_read-here.ensures in
-    let reads = reads_of c.args.self.now.header _ c.args.self.now.header_value in
+    let reads = c.reads-position-end.ensures.0 in
     let put = rw c.read_line.ensures at c.put-in-loop-position.ensures in
     listing-more c.loop-position.invariant (omega (arith, reads)) n.view_value _ n.after_value
     (λ rest k. coming_put (view_line _ _ c.next_read-here.result.view) rest k put)
@@ -24,15 +23,15 @@ loop-position-init c =
 -- a read is left
 pub next_read-here-requires-clause-position_bound : goal.next_read-here-requires-clause-position_bound
 next_read-here-requires-clause-position_bound c =
-    omega (arith, reads_of c.args.self.now.header _ c.args.self.now.header_value)
+    omega (arith, c.reads-position-end.ensures.0)
 
 pub put-requires-in-loop-position : goal.put-requires-in-loop-position
 put-requires-in-loop-position c =
-    let reads = reads_of c.args.self.now.header _ c.args.self.now.header_value in
+    let reads = c.reads-position-end.ensures.0 in
     let coming = listing_next c.loop-position.invariant (omega (arith, reads)) c.next_read-here.ensures.view_value in
     rw c.read_line.ensures (coming_room _ _ coming)
 
 pub returns : goal.returns
 returns c =
-    let reads = reads_of c.args.self.now.header _ c.args.self.now.header_value in
+    let reads = c.reads-position-end.ensures.0 in
     coming_done (listing-done c.loop-position.invariant (omega (arith, reads)))

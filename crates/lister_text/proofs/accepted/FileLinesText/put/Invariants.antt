@@ -7,5 +7,5 @@ use Rattle.lister_text.proofs.accepted.FileLinesText.put.Given as goal
 
 abbrev pub invariant-loop-position : goal.invariant-loop-position
 invariant-loop-position l =
-    Listing l.self.file.now l.position l.boundary
-    (λ rest. Coming (file_lines (parse l.self.file.now)) l.fn.writer l.writer rest)
+    Listing l.self.file l.position l.boundary
+    (λ rest. Coming (file_lines (parse l.self.file)) l.fn.writer l.writer rest)

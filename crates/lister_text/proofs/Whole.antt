@@ -17,7 +17,8 @@ use Rattle.sff_format.specs.Parse.{parse}
 use Rattle.sff_format.proofs.HeaderLaws.{fits_31, header_fits, header_sized, characters-length}
 use Rattle.sff_format.proofs.FileLaid.{head_ok, length_parsed}
 use Rattle.lines.specs.Lines.{header_line, refusal_line}
-use Rattle.lister_text.specs.Listing.{lines_from, file_lines, listed, listing, enough}
+use Rattle.lines.proofs.Answered.{answered-text, answered-refusal}
+use Rattle.lister_text.specs.Listing.{lines_from, file_lines, listing, enough}
 use Rattle.lister_text.proofs.Lengths.{listing_short}
 
 module _ (b : List ℕ) (e : file_test b ≡ Accepted) where
@@ -36,12 +37,12 @@ module _ (b : List ℕ) (e : file_test b ≡ Accepted) where
       rw (w, f, c, i, characters-length b h, length_parsed b (read_count b) (header_length b) false)
 
   pub listing-accepted : listing b ≡ file_lines (parse b)
-  unfolding listing listed
-  listing-accepted = rw e
+  unfolding listing
+  listing-accepted = answered-text _ e
 
 pub listing_refused : (b : List ℕ) (n p : ℕ) → file_test b ≡ Refused n p → listing b ≡ refusal_line n p
-unfolding listing listed
-listing_refused b n p e = rw e
+unfolding listing
+listing_refused b n p e = answered-refusal _ e
 
 -- enough room for any file of that length
 pub enough_room : (b : List ℕ) (room : ℕ) → Bytes b → file_test b ≡ Accepted → {r : Bool} → r ≡ not (ltb room (enough (length b))) → r ≡ true

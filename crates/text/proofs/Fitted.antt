@@ -3,8 +3,9 @@ use Prim.Native.Nat.{ℕ, ◌≤◌, ◌<◌}
 use mathlib.Core.Path.{◌≡◌, refl}
 use mathlib.Core.Bool.{Bool, true, false}
 use mathlib.Core.List.{List, []}
+use native.Mathlib.Omega.{arith}
 use lib.Dec.{ltb}
-use borrow.Author.Tests.{ltb-true, lt-ltb, le-ltb}
+use borrow.Author.Tests.{ltb-true, ltb-false, lt-ltb, le-ltb}
 use lib.ListN.{length}
 use Rattle.answers.specs.Answer.{Accepted, Refused, number_of, when, accepted_or, among, Among}
 use Rattle.answers.proofs.Answers.{refused_or, refused-not}
@@ -36,3 +37,11 @@ module _ (room : ℕ) (xs : List ℕ) where
   pub fitted_none : (number_of (fitted room xs).answer ≡ 0 → ⊥) → (fitted room xs).text ≡ []
   unfolding fitted
   fitted_none h = refused_or (when (ltb room (length xs)) 26 0) xs [] h
+
+  pub fitted_short : length (fitted room xs).text ≤ room
+  unfolding fitted when accepted_or
+  fitted_short = go (ltb room (length xs)) refl
+    where
+      go : (t : Bool) → ltb room (length xs) ≡ t → length (accepted_or (when t 26 0) xs []) ≤ room
+      go true e = omega arith
+      go false e = ltb-false room (length xs) e

@@ -1,7 +1,7 @@
 use Rattle.std.proofs.Common.{arith}
 use Rattle.octets.proofs.AllBytes.{bytes_of_lem}
 use Rattle.text.proofs.Coming.{room_left_start, room_left_more, room_left_none, room_left_done}
-use Rattle.lister_text.specs.Listing.{lines_from, view_line}
+use Rattle.lister_text.specs.Listing.{view_line}
 use Rattle.lister_text.proofs.Turns.{listing_start, listing-done, listing_next, listing-more}
 use Rattle.lister_text.proofs.accepted.FileLinesText.left_of.Goals as goal
 

@@ -1,7 +1,7 @@
 use Rattle.std.proofs.Common.{arith}
 use Rattle.octets.proofs.AllBytes.{bytes_of_lem}
 use Rattle.text.proofs.Coming.{coming_start, coming_room, coming_put, coming_done}
-use Rattle.lister_text.specs.Listing.{lines_from, view_line}
+use Rattle.lister_text.specs.Listing.{view_line}
 use Rattle.lister_text.proofs.Turns.{listing_start, listing-done, listing_next, listing-more}
 use Rattle.lister_text.proofs.accepted.FileLinesText.put.Goals as goal
 

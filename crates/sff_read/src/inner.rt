@@ -74,6 +74,7 @@ fn bases_test_at(file: &[u8], at: usize, bases: usize, flows: usize) -> Result<(
         increments,
         &file[increments_end..increments_end + bases],
     );
+    // No map_err: its closure would have to ask, by a clause of its own, that the sum of the two places fits.
     match matched {
         Ok(()) => Ok(()),
         Err(Refusal(cause, place)) => Err(Refusal(cause, at + place)),

@@ -6,7 +6,6 @@ ghost use Rattle.sff_signal.specs.Signal.{sum_of, max_of, min_of, quotient, summ
 
 use crate::Summary;
 use octets::inner::get16;
-use octets::{greatest32, least32};
 
 // The whole numbers that a summary is made of. 32 bits hold the sum of 65,535 values, and are exactly an f64.
 #[derive(Clone, Copy)]
@@ -34,8 +33,8 @@ fn add_up(file: &[u8], at: usize, flows: usize) -> Totals
     let mut sum = first;
     for i in 1..flows {
         let x = value(file, at + 2 * i);
-        most = greatest32(most, x);
-        least = least32(least, x);
+        most = most.max(x);
+        least = least.min(x);
         sum += x;
     }
     Totals { most, least, sum }

@@ -1,21 +1,18 @@
 -- The loop over the boundaries: what is still to be asked decides. Assumes nothing.
 use Prim.Native.Nat.{ℕ, zero, suc, ◌+◌, ◌≤◌}
 use mathlib.Core.Path.{◌≡◌, refl, sym, ◌∙◌}
-use mathlib.Core.Bool.{Bool, false, not, ◌&&◌}
+use mathlib.Core.Bool.{Bool, false}
 use mathlib.Core.List.{List}
 use native.Mathlib.Omega.{arith}
 use borrow.Author.Rules.{rules}
-use lib.Dec.{ltb}
 use lib.ListN.{length}
-use Rattle.octets.specs.Parts.{part}
-use Rattle.answers.specs.Answer.{Answer, Accepted, Refused, when, ◌then◌}
+use Rattle.answers.specs.Answer.{Answer, Accepted, Refused, ◌then◌}
 use Rattle.sff_format.specs.declared.Boundary.{Boundary}
 use Rattle.sff_format.specs.Walk.{first_boundary, read_start, next_boundary}
 use Rattle.answers.proofs.Chains.{returned}
-use Rattle.sff_format.specs.Rules.{declared, index_size}
 use Rattle.sff_format.specs.HeaderTest.{read_count, header_length, flows, flow_characters, header_test}
 use Rattle.sff_format.specs.ReadTest.{read_test, read_end}
-use Rattle.sff_format.specs.FileTest.{index_due, index_here, pass_test, index_test, past_index, now_passed, end_test, boundary_test}
+use Rattle.sff_format.specs.FileTest.{index_test, past_index, now_passed, end_test, boundary_test}
 use Rattle.sff_format.proofs.HeaderLaws.{header_fits, header_sized}
 use Rattle.sff_format.proofs.ReadLaid.{fits_16}
 use Rattle.sff_format.proofs.Steps.{past_fits, read_fits}

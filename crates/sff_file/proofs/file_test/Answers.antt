@@ -16,6 +16,3 @@ new-requires c = fits_31 _ (sym c.in_ok-header_test.ensures)
 pub returns : goal.returns
 unfolding file_test
 returns c = handed_on _ _ c.in_ok-header_test.ensures (rw c.new.ensures at c.sections_test.ensures)
-
-pub sections_test-requires : goal.sections_test-requires
-sections_test-requires c = rw c.new.ensures (sym c.in_ok-header_test.ensures)

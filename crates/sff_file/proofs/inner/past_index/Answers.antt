@@ -1,5 +1,4 @@
 -- An index that is due is passed; where none is, the read starts at the boundary.
-use Rattle.std.proofs.Common.{arith}
 use Rattle.sff_format.proofs.Boundaries.{no_past, no_pass, past, pass}
 use Rattle.sff_file.proofs.Sections.{due}
 use Rattle.sff_file.proofs.inner.past_index.Goals as goal

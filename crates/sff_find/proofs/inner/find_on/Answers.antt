@@ -17,9 +17,3 @@ seek-requires-clause-walk c =
     let bytes = bytes_of_lem a.file.now (λ j. (c.type_inv.file j).fits) in
     let below : a.from.position < read_count a.file.now = omega (arith, c.requires.position_bound) in
     rw (c.boundary_at.ensures, c.new-headed.ensures) (walk_at _ c.requires.file_value bytes _ below (c.requires.marked.known below))
-
-pub seek-requires-clause-behind_le_position : goal.seek-requires-clause-behind_le_position
-seek-requires-clause-behind_le_position c = rw c.new-headed.ensures (omega arith, c.requires.position_bound)
-
-pub returns : goal.returns
-returns c = rw (← c.new-headed.ensures) c.seek.ensures

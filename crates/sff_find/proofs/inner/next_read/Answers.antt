@@ -7,6 +7,3 @@ view_at-requires c = walk_begins c.requires.walk c.past_index-start.ensures c.re
 
 pub next_boundary-requires : goal.next_boundary-requires
 next_boundary-requires c = walk_begins c.requires.walk c.past_index-start.ensures c.requires.position_bound
-
-pub returns-clause-view_value : goal.returns-clause-view_value
-returns-clause-view_value c = rw (c.view_at.ensures, c.past_index-start.ensures)

@@ -5,6 +5,11 @@ use Rattle.correction_format.specs.Record.{record_test}
 use Rattle.sff_record.proofs.Reasons.{name_refuses, name_accepts}
 use Rattle.sff_record.proofs.record_test.Goals as goal
 
+pub returns : goal.returns
+unfolding record_test
+returns c =
+    search (onward, name_accepts, c.in_ok-unused_test.ensures, c.in_ok-name_field_test.ensures, c.in_ok-new_clips_test.ensures) depth 9
+
 pub returns-then-record-ne96 : goal.returns-then-record-ne96
 unfolding record_test
 returns-then-record-ne96 c = search refusal
@@ -30,8 +35,3 @@ pub returns-in_err-new_clips_test : goal.returns-in_err-new_clips_test
 unfolding record_test
 returns-in_err-new_clips_test c =
     search (refusal, name_accepts, c.in_ok-unused_test.ensures, c.in_ok-name_field_test.ensures, c.in_err-new_clips_test.ensures) depth 9
-
-pub returns : goal.returns
-unfolding record_test
-returns c =
-    search (onward, name_accepts, c.in_ok-unused_test.ensures, c.in_ok-name_field_test.ensures, c.in_ok-new_clips_test.ensures) depth 9

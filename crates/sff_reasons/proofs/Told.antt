@@ -9,6 +9,7 @@ use lib.Dec.{ltb, eqb}
 use lib.ListN.{length, drop}
 use Rattle.octets.specs.Parts.{part, same, up8}
 use Rattle.octets.specs.Numbers.{Bytes}
+use Rattle.octets.proofs.AllBytes.{bytes_of_lem}
 use Rattle.octets.proofs.Lists.{length_part}
 use Rattle.octets.proofs.Same.{same-lengths}
 use Rattle.answers.specs.Answer.{Answer, Accepted, Refused, accepted_or}
@@ -29,15 +30,34 @@ use Rattle.sff_format.proofs.FileLaid.{head_ok, reads-counted, index-passed, fil
 use Rattle.sff_format.proofs.Places.{read_found}
 use Rattle.sff_format.proofs.Positions.{read-accepted}
 use Rattle.correction_format.specs.declared.Fields.{Fields}
+use Rattle.correction_format.specs.declared.Kind.TheVariants.{Clips, Rename}
 use Rattle.correction_format.specs.Record.{record_test, kind, old_name, new_name, new_quality_left, new_quality_right, new_adapter_left, new_adapter_right}
 use Rattle.correction_format.specs.Correction.{Change, clips, rename, remove, is_clips}
 use Rattle.correction_format.specs.RecordLayout.{change_in}
 use Rattle.correction_format.specs.Fields.{FieldsOf, asked}
 use Rattle.correction_format.specs.Edit.{target, edited}
 use Rattle.correction_format.specs.Reasons.{has_target, clips_above, others, name_among, new_name_among, position_above, other_name, index_present, clip_above, name_taken, no_room, reason_rows, reasons}
-use Rattle.correction_format.proofs.Asked.{kind_of_lem, clips-asked, rename-asked, new_length_of}
+use Rattle.correction_format.proofs.Asked.{clips-asked, rename-asked, not-clips, not-rename, new_length_of}
 use Rattle.correction_format.proofs.EditedSizes.{clips-size, name-size, none_size}
-use Rattle.sff_reasons.specs.ReadAtPosition.{ReadAtPosition}
+use Rattle.sff_reasons.specs.declared.inner.Judged.{Judged}
+
+-- an accepted file, and the fields of a well-formed record: the file has a read at their position
+record ReadAtPosition (file r : List ℕ) (fields : Fields) : Type 0 where
+  pub bytes : Bytes file
+  pub accepted : file_test file ≡ Accepted
+  pub formed : record_test r ≡ Accepted
+  pub fields_of : FieldsOf fields r
+  pub below : fields.position < read_count file
+
+-- what is judged is that
+pub found : (j : Judged) → ReadAtPosition j.file.now j.record.now.bytes.now j.record.now.fields
+found j = record {
+  bytes = bytes_of_lem j.file.now j.bytes_fit;
+  accepted = j.accepted;
+  formed = j.record.now.formed;
+  fields_of = j.record.now.fields_of;
+  below = j.below;
+}
 
 -- a name beside the n bytes at p: they differ where the lengths do
 module _ (name b : List ℕ) (p n : ℕ) {m : ℕ} (e : m ≡ n) where
@@ -67,16 +87,6 @@ module _ (b r : List ℕ) (x : Fields) (room : ℕ) where
   below-count e = rw (reads-counted b) at (ltb-true x.position (length (parse b).reads) (not-false _ e))
 
 module _ {b r : List ℕ} {x : Fields} (s : ReadAtPosition b r x) where
-  -- what holds of every change that a record of another kind asks for
-  not-clips : (P : Change → Type 0) → (x.kind ≡ 1 → ⊥) → P (rename (new_name r)) → P remove → P (change_in r)
-  unfolding change_in
-  not-clips P k h l = rw (ne_eqb (kind r) 1 (λ e. k (kind_of_lem x r s.fields_of ∙ e))) (cond_keeps P (eqb (kind r) 2) _ _ h l)
-
-  not-rename : (P : Change → Type 0) → (x.kind ≡ 2 → ⊥)
-      → P (clips (new_quality_left r) (new_quality_right r) (new_adapter_left r) (new_adapter_right r)) → P remove → P (change_in r)
-  unfolding change_in
-  not-rename P k h l = rw (ne_eqb (kind r) 2 (λ e. k (kind_of_lem x r s.fields_of ∙ e))) (cond_keeps P (eqb (kind r) 1) _ _ h l)
-
   count : x.position < length (parse b).reads
   count = rw (reads-counted b) s.below
 
@@ -93,30 +103,30 @@ module _ {b r : List ℕ} {x : Fields} (s : ReadAtPosition b r x) where
     read-there = ap not has_target_lem
 
     -- an index (25): clips may be changed beside one
-    pub clips_pass : x.kind ≡ 1 → false ≡ index_present room (asked x r) (parse b)
+    pub clips_pass : x.kind ≡ Clips → false ≡ index_present room (asked x r) (parse b)
     unfolding index_present
     clips_pass k = rw (clips-asked x r s.fields_of k)
 
-    pub index_told : (x.kind ≡ 1 → ⊥) → {d : Bool} → d ≡ declared (index_offset b) (index_length b) → d ≡ index_present room (asked x r) (parse b)
+    pub index_told : (x.kind ≡ Clips → ⊥) → {d : Bool} → d ≡ declared (index_offset b) (index_length b) → d ≡ index_present room (asked x r) (parse b)
     unfolding index_present parse
-    index_told k e = rw (not-clips (λ y. is_clips y ≡ false) k refl refl, index-length b (index-passed b s.bytes s.accepted)) e
+    index_told k e = rw (not-clips x r s.fields_of (λ y. is_clips y ≡ false) k refl refl, index-length b (index-passed b s.bytes s.accepted)) e
 
     -- another read's name (24): only a rename can take one
-    pub none_borne : (x.kind ≡ 2 → ⊥) → false ≡ name_taken room (asked x r) (parse b)
+    pub none_borne : (x.kind ≡ Rename → ⊥) → false ≡ name_taken room (asked x r) (parse b)
     unfolding name_taken new_name_among
-    none_borne k = rw (has_target_lem, not-rename (λ y. new_name_among y (others (asked x r) (parse b)) ≡ false) k refl refl)
+    none_borne k = rw (has_target_lem, not-rename x r s.fields_of (λ y. new_name_among y (others (asked x r) (parse b)) ≡ false) k refl refl)
 
-    pub borne_told : x.kind ≡ 2 → {t : Bool} → t ≡ name_among (new_name r) (others (asked x r) (parse b)) → t ≡ name_taken room (asked x r) (parse b)
+    pub borne_told : x.kind ≡ Rename → {t : Bool} → t ≡ name_among (new_name r) (others (asked x r) (parse b)) → t ≡ name_taken room (asked x r) (parse b)
     unfolding name_taken new_name_among
     borne_told k e = rw (has_target_lem, rename-asked x r s.fields_of k) e
 
     -- room (26): only a longer name can lack it
-    pub room_kept : length b ≤ room → (x.kind ≡ 2 → ⊥) → false ≡ no_room room (asked x r) (parse b)
+    pub room_kept : length b ≤ room → (x.kind ≡ Rename → ⊥) → false ≡ no_room room (asked x r) (parse b)
     unfolding no_room
     room_kept h k =
         let c = asked x r in
         let m : length (layout (edited c (parse b))) ≤ length b =
-        not-rename (λ y. change_in r ≡ y → length (layout (edited c (parse b))) ≤ length b) k
+        not-rename x r s.fields_of (λ y. change_in r ≡ y → length (layout (edited c (parse b))) ≤ length b) k
         (λ e. let n = clips-size c (parse b) count _ _ _ _ e in omega (arith, n, laid))
         (λ e. let n = none_size c (parse b) count e in omega (arith, n, laid)) refl in
         let n : length (layout (edited c (parse b))) ≤ room = omega arith in
@@ -156,11 +166,11 @@ module _ {b r : List ℕ} {x : Fields} (s : ReadAtPosition b r x) where
       name_told e = rw (has_target_lem, name_is, e)
 
       -- clips above the bases (23): only kind 1 gives clips
-      pub none_above : (x.kind ≡ 1 → ⊥) → false ≡ clip_above room (asked x r) (parse b)
+      pub none_above : (x.kind ≡ Clips → ⊥) → false ≡ clip_above room (asked x r) (parse b)
       unfolding clip_above clips_above
-      none_above k = rw (has_target_lem, not-clips (λ y. clips_above (length (target (asked x r) (parse b)).bases) y ≡ false) k refl refl)
+      none_above k = rw (has_target_lem, not-clips x r s.fields_of (λ y. clips_above (length (target (asked x r) (parse b)).bases) y ≡ false) k refl refl)
 
-      module _ (k : x.kind ≡ 1) {n : ℕ} (l : n ≡ base_count b p) {a : Answer}
+      module _ (k : x.kind ≡ Clips) {n : ℕ} (l : n ≡ base_count b p) {a : Answer}
           (e : a ≡ clip_test 0 n x.quality_left x.quality_right x.adapter_left x.adapter_right) where
         clips_told : clip_above room (asked x r) (parse b) ≡ accepted_or a false true
         unfolding clip_above clips_above
@@ -175,7 +185,7 @@ module _ {b r : List ℕ} {x : Fields} (s : ReadAtPosition b r x) where
         all-within f = sym (clips_told ∙ rw f)
 
       -- 26, by the two header sections
-      pub room_told : x.kind ≡ 2 → length b ≤ room → {k u : ℕ} → k ≡ section_length b p → u ≡ up8 (16 + x.new_length)
+      pub room_told : x.kind ≡ Rename → length b ≤ room → {k u : ℕ} → k ≡ section_length b p → u ≡ up8 (16 + x.new_length)
           → ltb (room - length b + k) u ≡ no_room room (asked x r) (parse b)
       unfolding no_room
       room_told k h e f =
@@ -184,11 +194,6 @@ module _ {b r : List ℕ} {x : Fields} (s : ReadAtPosition b r x) where
           let z : length (layout (edited (asked x r) (parse b))) + section_length b p ≡ length b + up8 (16 + x.new_length) =
           rw (m, ← section_is (flow_characters b) b p there, laid, ← new_length_of x r s.fields_of s.formed) at n in
           rw (has_target_lem, e, f) (moved_over room (length b) (section_length b p) _ _ h z)
-
--- what they are given, from what `reason` is given
-pub found : {b r : List ℕ} {x : Fields} → Bytes b → file_test b ≡ Accepted → record_test r ≡ Accepted → FieldsOf x r
-    → x.position < read_count b → ReadAtPosition b r x
-found z e f o h = record { bytes = z; accepted = e; formed = f; fields_of = o; below = h }
 
 -- The tests in document 01's order: the first that holds gives its number.
 module _ {b r : List ℕ} {x : Fields} (s : ReadAtPosition b r x) (room : ℕ) where

@@ -2,13 +2,15 @@
 // lies in the file: hence each `requires`.
 ghost use Rattle.std.specs.Prelude.{◌≡◌, ◌+◌, ◌≤◌, length};
 ghost use Rattle.answers.specs.Answer.{answer_of};
+ghost use Rattle.sff_format.specs.HeaderTest.{flows};
 ghost use Rattle.sff_format.specs.FileTest.{index_here, pass_test, index_test, end_test};
+ghost use Rattle.sff_format.specs.View.{view_at};
 ghost use Rattle.sff_format.specs.Walk.{first_boundary, read_start, next_boundary, boundary_at};
 
 use answers::{Cause, Refusal};
-use sff_format::Boundary;
+use sff_format::{Boundary, ReadView};
 use sff_header::HeadedFile;
-use sff_read::inner::read_end;
+use sff_read::inner::{read_end, read_view};
 
 // Whether an index is declared at a boundary and not yet passed.
 #[tactic(auto, unfolding(sff_format::specs::FileTest::index_due))]
@@ -86,6 +88,14 @@ pub fn next_boundary(file: &HeadedFile, start: Boundary) -> Boundary
         place: read_end(file.bytes(), start.place, file.flows()),
         passed: start.passed,
     }
+}
+
+// What the read at a place says.
+pub fn view_at(file: &HeadedFile, place: usize) -> ReadView
+    requires { place + 16 ≤ length file.now }
+    ensures { result ≡ view_at (flows file.now) file.now place }
+{
+    read_view(file.bytes(), place, file.flows())
 }
 
 // The boundary at the start of a read whose place is known.

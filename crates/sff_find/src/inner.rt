@@ -9,10 +9,9 @@ ghost use Rattle.sff_format.specs.Walk.{read_start, next_boundary, Walk};
 ghost use Rattle.sff_format.specs.Position.{view_of};
 ghost use Rattle.sff_find.specs.Mark.{Marked};
 
-use sff_file::inner::{boundary_at, first_boundary, next_boundary, past_index};
+use sff_file::inner::{boundary_at, first_boundary, next_boundary, past_index, view_at};
 use sff_format::{Boundary, ReadView};
 use sff_header::HeadedFile;
-use sff_read::inner::read_view;
 
 // From a boundary with some reads behind it to the start of the read at a position.
 fn seek(file: &HeadedFile, from: Boundary, behind: usize, position: usize) -> usize
@@ -68,8 +67,7 @@ pub fn view_of(file: &[u8], position: usize) -> ReadView
     ensures { result ≡ view_of file.now position }
 {
     let place = find(file, position);
-    let headed = HeadedFile::new(file);
-    read_view(file, place, headed.flows())
+    view_at(&HeadedFile::new(file), place)
 }
 
 // A read's view, and the boundary after it.
@@ -88,7 +86,7 @@ pub fn next_read(file: &HeadedFile, position: usize, boundary: Boundary) -> Turn
 {
     let start = past_index(file, boundary);
     Turn {
-        view: read_view(file.bytes(), start.place, file.flows()),
+        view: view_at(file, start.place),
         after: next_boundary(file, start),
     }
 }

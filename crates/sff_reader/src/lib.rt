@@ -9,10 +9,10 @@ ghost use Rattle.sff_format.specs.Step.{fresh, fresh_place, step, step_test, rea
 ghost use Rattle.sff_reader.specs.Forms.{state_of, found_of, step_of};
 
 use answers::{Cause, Refusal};
-use sff_file::inner::{end_test, index_test, next_boundary, past_index};
+use sff_file::inner::{end_test, index_test, next_boundary, past_index, view_at};
 use sff_format::{Boundary, ReadView};
 use sff_header::{HeadedFile, header_test};
-use sff_read::inner::{read_test, read_view};
+use sff_read::inner::read_test;
 
 // A byte place, the reads passed, and whether the index is passed. A caller may put in any values.
 #[derive(Clone, Copy)]
@@ -69,7 +69,7 @@ fn found(file: &[u8], reader: Reader) -> Found
         passed_index: after.passed,
     };
     Found {
-        view: read_view(file, start.place, headed.flows()),
+        view: view_at(&headed, start.place),
         next,
     }
 }

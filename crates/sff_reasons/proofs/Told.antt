@@ -4,16 +4,18 @@ use mathlib.Core.Path.{◌≡◌, refl, sym, ap, ◌∙◌}
 use mathlib.Core.Bool.{Bool, true, false, not}
 use mathlib.Core.List.{List, []}
 use native.Mathlib.Omega.{arith}
-use borrow.Author.Tests.{not-false, ltb-true, ltb-false, lt-ltb, le-ltb, ne_eqb}
-use lib.Dec.{ltb, eqb}
+use denote.Enum.Bare.{sameb}
+use borrow.Author.Tests.{not-false, ltb-true, ltb-false, lt-ltb, le-ltb, leb-true, leb-false}
+use lib.Dec.{ltb, leb}
 use lib.ListN.{length, drop}
+use Rattle.std.specs.Prelude.{Result, Ok, Err}
+use Rattle.std.specs.Result.{is_err}
 use Rattle.octets.specs.Parts.{part, same, up8}
 use Rattle.octets.specs.Numbers.{Bytes}
 use Rattle.octets.proofs.AllBytes.{bytes_of_lem}
 use Rattle.octets.proofs.Lists.{length_part}
-use Rattle.octets.proofs.Same.{same-lengths}
-use Rattle.answers.specs.Answer.{Answer, Accepted, Refused, accepted_or}
-use Rattle.answers.proofs.Answers.{cond_keeps}
+use Rattle.answers.specs.declared.Refusal.{Refusal}
+use Rattle.answers.specs.Answer.{Accepted, Refused, answer_of, accepted_or}
 use Rattle.answers.specs.Rows.{Row, first_row}
 use Rattle.answers.proofs.Rows.{row-holds, row-not}
 use Rattle.sff_format.specs.Rules.{declared}
@@ -30,39 +32,73 @@ use Rattle.sff_format.proofs.FileLaid.{head_ok, reads-counted, index-passed, fil
 use Rattle.sff_format.proofs.Places.{read_found}
 use Rattle.sff_format.proofs.Positions.{read-accepted}
 use Rattle.correction_format.specs.declared.Fields.{Fields}
-use Rattle.correction_format.specs.declared.Kind.TheVariants.{Clips, Rename}
-use Rattle.correction_format.specs.Record.{record_test, kind, old_name, new_name, new_quality_left, new_quality_right, new_adapter_left, new_adapter_right}
-use Rattle.correction_format.specs.Correction.{Change, clips, rename, remove, is_clips}
+use Rattle.correction_format.specs.declared.Kind.{Kind}
+use Rattle.correction_format.specs.declared.Kind.TheVariants.{Clips, Rename, Remove}
+use Rattle.correction_format.specs.contracts.Kind.{the_type}
+use Rattle.correction_format.specs.Record.{record_test, old_name, new_name}
+use Rattle.correction_format.specs.Correction.{is_clips}
 use Rattle.correction_format.specs.RecordLayout.{change_in}
 use Rattle.correction_format.specs.Fields.{FieldsOf, asked}
 use Rattle.correction_format.specs.Edit.{target, edited}
 use Rattle.correction_format.specs.Reasons.{has_target, clips_above, others, name_among, new_name_among, position_above, other_name, index_present, clip_above, name_taken, no_room, reason_rows, reasons}
 use Rattle.correction_format.proofs.Asked.{clips-asked, rename-asked, not-clips, not-rename, new_length_of}
 use Rattle.correction_format.proofs.EditedSizes.{clips-size, name-size, none_size}
+use Rattle.sff_record.specs.declared.inner.Record.{Record}
 use Rattle.sff_reasons.specs.declared.inner.Judged.{Judged}
 
+-- what the code asks of a kind
+pub kind_is : (k j : Kind) → true ≡ sameb the_type k j → k ≡ j
+kind_is Clips Clips e = refl
+kind_is Clips Rename e = absurd (let z : ◌≡◌ {A = ℕ} 0 1 = cc in let f : ⊥ = omega arith in f)
+kind_is Clips Remove e = absurd (let z : ◌≡◌ {A = ℕ} 0 1 = cc in let f : ⊥ = omega arith in f)
+kind_is Rename Clips e = absurd (let z : ◌≡◌ {A = ℕ} 0 1 = cc in let f : ⊥ = omega arith in f)
+kind_is Rename Rename e = refl
+kind_is Rename Remove e = absurd (let z : ◌≡◌ {A = ℕ} 0 1 = cc in let f : ⊥ = omega arith in f)
+kind_is Remove Clips e = absurd (let z : ◌≡◌ {A = ℕ} 0 1 = cc in let f : ⊥ = omega arith in f)
+kind_is Remove Rename e = absurd (let z : ◌≡◌ {A = ℕ} 0 1 = cc in let f : ⊥ = omega arith in f)
+kind_is Remove Remove e = refl
+
+kind_itself : (k : Kind) → sameb the_type k k ≡ true
+kind_itself Clips = refl
+kind_itself Rename = refl
+kind_itself Remove = refl
+
+pub kind_not : (k j : Kind) → false ≡ sameb the_type k j → k ≡ j → ⊥
+kind_not k j e f =
+    let g : false ≡ true = e ∙ rw f (kind_itself j) in
+    let z : ◌≡◌ {A = ℕ} 0 1 = cc in omega arith
+
+turned : (s t : Bool) → s ≡ not t → not s ≡ t
+turned s true e = ap not e
+turned s false e = ap not e
+
+pub kind_differs : (k j : Kind) → true ≡ not (sameb the_type k j) → k ≡ j → ⊥
+kind_differs k j e = kind_not k j (turned true (sameb the_type k j) e)
+
+pub kind_equals : (k j : Kind) → false ≡ not (sameb the_type k j) → k ≡ j
+kind_equals k j e = kind_is k j (turned false (sameb the_type k j) e)
+
 -- an accepted file, and the fields of a well-formed record: the file has a read at their position
-record ReadAtPosition (file r : List ℕ) (fields : Fields) : Type 0 where
+pub record ReadAtPosition (file r : List ℕ) (fields : Fields) : Type 0 where
   pub bytes : Bytes file
   pub accepted : file_test file ≡ Accepted
   pub formed : record_test r ≡ Accepted
   pub fields_of : FieldsOf fields r
   pub below : fields.position < read_count file
 
+pub found_by : {b : List ℕ} (t : Record) → Bytes b → file_test b ≡ Accepted → t.fields.position < read_count b
+    → ReadAtPosition b t.bytes.now t.fields
+found_by t z e h = record { bytes = z; accepted = e; formed = t.formed; fields_of = t.fields_of; below = h }
+
 -- what is judged is that
 pub found : (j : Judged) → ReadAtPosition j.file.now j.record.now.bytes.now j.record.now.fields
-found j = record {
-  bytes = bytes_of_lem j.file.now j.bytes_fit;
-  accepted = j.accepted;
-  formed = j.record.now.formed;
-  fields_of = j.record.now.fields_of;
-  below = j.below;
-}
+found j = found_by j.record.now (bytes_of_lem j.file.now j.bytes_fit) j.accepted j.below
 
--- a name beside the n bytes at p: they differ where the lengths do
-module _ (name b : List ℕ) (p n : ℕ) {m : ℕ} (e : m ≡ n) where
-  pub names_differ : p + n ≤ length b → (length name ≡ m → ⊥) → false ≡ same name (part p n b)
-  names_differ h d = let z = length_part p n b h in sym (same-lengths name (part p n b) (λ f. d (omega (arith, z, e, f))))
+-- a refusal by the code's word
+told_by : {T : Type 0} (v : Result T Refusal) → is_err v ≡ accepted_or (answer_of v) false true
+unfolding accepted_or
+told_by (Ok value) = refl
+told_by (Err refusal) = refl
 
 -- as much is added on both sides of a test
 moved_over : (room n k u v : ℕ) → n ≤ room → v + k ≡ n + u → ltb (room - n + k) u ≡ ltb room v
@@ -74,13 +110,16 @@ moved_over room n k u v h e = go (ltb room v) refl
 
 -- 21 by the header's count
 module _ (b r : List ℕ) (x : Fields) (room : ℕ) where
-  pub above_told : read_count b ≤ x.position → true ≡ position_above room (asked x r) (parse b)
+  pub above_told : {n : ℕ} → n ≡ read_count b → leb n x.position ≡ position_above room (asked x r) (parse b)
   unfolding position_above
-  above_told h = sym (ap not (le-ltb x.position (length (parse b).reads) (rw (reads-counted b) h)))
+  above_told {n} e = go (leb n x.position) refl
+    where
+      m : length (parse b).reads ≡ n
+      m = reads-counted b ∙ sym e
 
-  pub below_told : x.position < read_count b → false ≡ position_above room (asked x r) (parse b)
-  unfolding position_above
-  below_told h = sym (ap not (lt-ltb x.position (length (parse b).reads) (rw (reads-counted b) h)))
+      go : (t : Bool) → leb n x.position ≡ t → t ≡ not (ltb x.position (length (parse b).reads))
+      go true l = sym (ap not (le-ltb x.position _ (let h = leb-true n x.position l in omega (arith, m, h))))
+      go false l = sym (ap not (lt-ltb x.position _ (let h = leb-false n x.position l in omega (arith, m, h))))
 
   pub below-count : position_above room (asked x r) (parse b) ≡ false → x.position < read_count b
   unfolding position_above
@@ -170,19 +209,11 @@ module _ {b r : List ℕ} {x : Fields} (s : ReadAtPosition b r x) where
       unfolding clip_above clips_above
       none_above k = rw (has_target_lem, not-clips x r s.fields_of (λ y. clips_above (length (target (asked x r) (parse b)).bases) y ≡ false) k refl refl)
 
-      module _ (k : x.kind ≡ Clips) {n : ℕ} (l : n ≡ base_count b p) {a : Answer}
-          (e : a ≡ clip_test 0 n x.quality_left x.quality_right x.adapter_left x.adapter_right) where
-        clips_told : clip_above room (asked x r) (parse b) ≡ accepted_or a false true
-        unfolding clip_above clips_above
-        clips_told = rw (has_target_lem, bases-length, clips-asked x r s.fields_of k, e, l)
-
-        pub some_above : {m q : ℕ} → a ≡ Refused m q → true ≡ clip_above room (asked x r) (parse b)
-        unfolding accepted_or
-        some_above f = sym (clips_told ∙ rw f)
-
-        pub all-within : a ≡ Accepted → false ≡ clip_above room (asked x r) (parse b)
-        unfolding accepted_or
-        all-within f = sym (clips_told ∙ rw f)
+      pub clips_told : x.kind ≡ Clips → {n : ℕ} → n ≡ base_count b p → {T : Type 0} (v : Result T Refusal)
+          → answer_of v ≡ clip_test 0 n x.quality_left x.quality_right x.adapter_left x.adapter_right
+          → is_err v ≡ clip_above room (asked x r) (parse b)
+      unfolding clip_above clips_above
+      clips_told k l v e = sym (rw (has_target_lem, bases-length, clips-asked x r s.fields_of k, ← l, ← e) (sym (told_by v)))
 
       -- 26, by the two header sections
       pub room_told : x.kind ≡ Rename → length b ≤ room → {k u : ℕ} → k ≡ section_length b p → u ≡ up8 (16 + x.new_length)

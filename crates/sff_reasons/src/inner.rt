@@ -4,7 +4,7 @@ ghost use Rattle.std.specs.Prelude.{◌≡◌, ℕ, ◌+◌, ◌≤◌, ◌<◌,
 ghost use Rattle.octets.specs.Parts.{part, same};
 ghost use Rattle.answers.specs.Answer.{Accepted, answer_of};
 ghost use Rattle.sff_format.specs.HeaderTest.{read_count};
-ghost use Rattle.sff_format.specs.ReadTest.{name_length};
+ghost use Rattle.sff_format.specs.ReadTest.{name_length, base_count};
 ghost use Rattle.sff_format.specs.FileTest.{file_test};
 ghost use Rattle.sff_format.specs.Parse.{parse};
 ghost use Rattle.sff_format.specs.Places.{read_place, replaced};
@@ -39,7 +39,8 @@ fn name_among(file: &[u8], position: usize, name: &[u8]) -> bool
     let mut at = first_boundary(&headed);
     for behind in 0..headed.reads() {
         let start = past_index(&headed, at);
-        if (behind != position) & has_name(file, start.place, name) {
+        let borne = (behind != position) & has_name(file, start.place, name);
+        if borne {
             return true;
         }
         at = next_boundary(&headed, start);
@@ -53,6 +54,14 @@ pub fn position_above(file: &[u8], record: &Record) -> bool
     ensures { (room : ℕ) → result ≡ position_above room (asked «record».now.fields «record».now.bytes.now) (parse file.now) }
 {
     record.fields.position >= get32(file, 20)
+}
+
+// The number of bases of the read at `place`.
+fn base_count(file: &[u8], place: usize) -> usize
+    requires { place + 16 ≤ length file.now }
+    ensures { (result ≡ base_count file.now place) × (result < 4294967296) }
+{
+    get32(file, place + 4)
 }
 
 // A record, and its read in an accepted file.
@@ -95,7 +104,7 @@ impl<'a> Judged<'a> {
         }
         clip_test(
             0,
-            get32(self.file, self.place + 4),
+            base_count(self.file, self.place),
             BasePosition(fields.quality_left),
             BasePosition(fields.quality_right),
             BasePosition(fields.adapter_left),
@@ -111,7 +120,11 @@ impl<'a> Judged<'a> {
         if self.record.fields.kind != Kind::Rename {
             return false;
         }
-        name_among(self.file, self.record.fields.position, self.record.new_name())
+        name_among(
+            self.file,
+            self.record.fields.position,
+            self.record.new_name(),
+        )
     }
 
     // 26: the file with the new name does not fit into a buffer of `room` bytes, into which it fits as it is.

@@ -26,6 +26,14 @@ returns-in-Clips c =
     let d = clips-done s c.in-Clips.is z c.new_clips_field.ensures c.put_clips.ensures in
     record { value = d.0; buffer_after = d.1 }
 
+pub returns-in-Rename : goal.returns-in-Rename
+returns-in-Rename c =
+    let a = c.args in
+    let s : ReadyToEdit a.buffer.now a.len a.place a.record.now.fields a.record.now.bytes.now = search (ready, bytes_of_lem, rules) in
+    let n = c.put_name.ensures in
+    let d = name_done s c.in-Rename.is c.new_name_field-field.ensures n.value n.buffer_after in
+    record { value = d.0; buffer_after = d.1 }
+
 pub put_name-requires : goal.put_name-requires
 put_name-requires c =
     let a = c.args in
@@ -36,14 +44,6 @@ put_name-requires c =
       field_len = (ap length c.new_name_field-field.ensures ∙ ready_field s, name_inside s k);
       n_in_bounds = name_room_lem s k;
     }
-
-pub returns-in-Rename : goal.returns-in-Rename
-returns-in-Rename c =
-    let a = c.args in
-    let s : ReadyToEdit a.buffer.now a.len a.place a.record.now.fields a.record.now.bytes.now = search (ready, bytes_of_lem, rules) in
-    let n = c.put_name.ensures in
-    let d = name_done s c.in-Rename.is c.new_name_field-field.ensures n.value n.buffer_after in
-    record { value = d.0; buffer_after = d.1 }
 
 pub get16-flows-requires : goal.get16-flows-requires
 get16-flows-requires c =

@@ -4,7 +4,7 @@
 #![tactic(auto)]
 
 use correction_format::ListOutcome;
-use loading::{Loaded, argument, argument_count, file_name, load_argument, tell};
+use loading::{argument, argument_count, file_name, load_argument, tell};
 use octets::whole_part;
 use printing::print_text;
 use std::fs::{File, OpenFile};
@@ -48,10 +48,8 @@ fn deliver(
     outcome: ListOutcome,
     buffer: &[u8],
 ) -> io::Result<()> {
-    if correct_text::is_written(outcome) {
-        if !save(rt, 3, whole_part(buffer, 0, outcome.length)) {
-            return Ok(());
-        }
+    if correct_text::is_written(outcome) && !save(rt, 3, whole_part(buffer, 0, outcome.length)) {
+        return Ok(());
     }
     let mut text = correct_text::report_room();
     let written = correct_text::report(outcome, &mut text);
@@ -60,13 +58,11 @@ fn deliver(
 
 fn correct(rt: &(impl Env + Files + Print + Eprint)) -> io::Result<()> {
     let mut buffer = [0u8; 65536];
-    let file = load_argument(rt, 1, &mut buffer)?;
-    let Loaded::Bytes(n) = file else {
+    let Some(n) = load_argument(rt, 1, &mut buffer)? else {
         return Ok(());
     };
     let mut list = [0u8; 65536];
-    let records = load_argument(rt, 2, &mut list)?;
-    let Loaded::Bytes(m) = records else {
+    let Some(m) = load_argument(rt, 2, &mut list)? else {
         return Ok(());
     };
     let outcome = sff_corrector::correct_list(&mut buffer, n, whole_part(&list, 0, m));

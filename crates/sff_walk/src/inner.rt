@@ -9,7 +9,8 @@ use crate::{BasePosition, FlowPosition};
 use answers::{Cause, Refusal};
 
 // The place among the increments of the first one, from base position `base` on, that breaks the walk after flow
-// position `flow`; or their end.
+// position `flow`; or their end. Both loops stay as they are: document 01 names the form, a loop over index bytes that
+// yields by break the first offending byte place or the end, and a `for` yields nothing.
 fn walk_stop(
     increments: &[u8],
     mut base: BasePosition,
@@ -35,6 +36,7 @@ fn walk_stop(
 }
 
 // Whether a base may stand at a flow position.
+#[tactic(auto, unfolding(sff_format::specs::Rules::base_matches))]
 fn base_matches(characters: &[u8], flow: FlowPosition, base: u8) -> bool
     requires { (1 ≤ flow.0) × (flow.0 ≤ length characters.now) }
     ensures { result ≡ base_matches characters.now flow.0 base }

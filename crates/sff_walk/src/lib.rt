@@ -5,14 +5,12 @@
 ghost use Rattle.std.specs.Prelude.{◌≡◌, ◌+◌, ◌<◌};
 ghost use Rattle.sff_format.specs.Rules.{is_flow};
 
-use octets::wide;
-
 pub mod inner;
 
 // Positions over a read's bases and over a file's flows. Both count from 1; neither is ever made from the other.
 
 // A base of a read; 0 is before the first, and as a clip "not computed".
-#[derive(Clone, Copy)]
+#[derive(Clone, Copy, Debug, PartialEq, PartialOrd)]
 pub struct BasePosition(pub usize);
 
 // A flow of a file; 0 is before the first.
@@ -34,12 +32,13 @@ impl FlowPosition {
         requires { self.0 < 65536 }
         ensures { result.0 ≡ self.0 + increment }
     {
-        FlowPosition(self.0 + wide(increment))
+        FlowPosition(self.0 + increment as usize)
     }
 
+    #[tactic(auto, unfolding(sff_format::specs::Rules::is_flow))]
     fn within(self, flows: usize) -> bool
         ensures { result ≡ is_flow flows self.0 }
     {
-        (1 <= self.0) & (self.0 <= flows)
+        (1..=flows).contains(&self.0)
     }
 }

@@ -13,9 +13,7 @@ use Rattle.octets.specs.Scans.{leading_count, first_not, Every}
 use Rattle.octets.proofs.Lists.{length_part, get_d_part}
 use Rattle.octets.proofs.Scan.{leading_le}
 use Rattle.octets.proofs.Every.{leading_passes, leading_fails}
-use Rattle.answers.specs.declared.Answer.{Answer}
-use Rattle.answers.specs.declared.Answer.TheVariants.{Accepted, Refused}
-use Rattle.answers.specs.Answer.{number_of, place_of, when, stopped, shifted, zero_place, ◌then◌, accepted_or}
+use Rattle.answers.specs.Answer.{Answer, Accepted, Refused, number_of, place_of, when, stopped, shifted, zero_place, ◌then◌, accepted_or}
 
 -- the code's tests as those of the definitions, for `search`
 pub ruleset tests = (lt-ltb, le-ltb, eq-eqb, ne_eqb)

@@ -6,9 +6,11 @@ use mathlib.Core.Bool.{Bool, true, false, not, ◌&&◌, ◌||◌}
 use native.Mathlib.Omega.{arith}
 use lib.Dec.{ltb, eqb}
 use borrow.Author.Tests.{lt-ltb, le-ltb, eq-eqb, ne_eqb}
-use Rattle.answers.specs.declared.Answer.{Answer}
-use Rattle.answers.specs.declared.Answer.TheVariants.{Accepted, Refused}
-use Rattle.answers.specs.Answer.{when, stopped, ◌then◌}
+use Rattle.std.specs.Prelude.{Result, Ok, Err}
+use Rattle.std.specs.Result.{IsErr, IsErrAnd}
+use Rattle.answers.specs.declared.Refusal.{Refusal}
+use Rattle.answers.specs.Causes.{number}
+use Rattle.answers.specs.Answer.{Answer, Accepted, Refused, answer_of, when, stopped, ◌then◌}
 
 -- a test that gave x
 module _ (a rest : Answer) {x : Answer} (e : x ≡ a) where
@@ -19,6 +21,20 @@ module _ (a rest : Answer) {x : Answer} (e : x ≡ a) where
   pub accepts : x ≡ Accepted → {y : Answer} → y ≡ rest → y ≡ (a then rest)
   unfolding ◌then◌
   accepts f g = rw (← e, f) g
+
+-- a test that a `?` follows: it hands on where the test accepts, and hands back what the test refuses with
+module _ (a rest : Answer) where
+  pub handed_on : Accepted ≡ a → {y : Answer} → y ≡ rest → y ≡ (a then rest)
+  unfolding ◌then◌
+  handed_on e f = rw (← e) f
+
+  pub handed_back : {n p : ℕ} → Refused n p ≡ a → {y : Answer} → y ≡ Refused n p → y ≡ (a then rest)
+  unfolding ◌then◌
+  handed_back e f = rw (← e) f
+
+pub returned : {T : Type 0} (r : Result T Refusal) (e : Refusal) → IsErr r × IsErrAnd r (λ x. x ≡ e) → answer_of r ≡ Refused (number e.0) e.1
+returned (Ok x) e (h, k) = absurd k
+returned (Err x) e (h, k) = rw k
 
 -- a condition, in front of the rest and as the last test
 module _ (t : Bool) (n p : ℕ) where
@@ -123,6 +139,6 @@ module _ (m f k : ℕ) where
 
 -- For `search`, which finds what the code's tests gave: `onward` where each of them hands on, `refusal` where the last
 -- of them refuses. Each test on the way takes one of the search's depth.
-pub ruleset onward = (accepts, passes, passes_last, reaches, reaches_last, le-ltb, ne_eqb, same, told, not_told, and_told, told_not_under, told_same, not_under_told, same_told, or_neither)
+pub ruleset onward = (accepts, handed_on, passes, passes_last, reaches, reaches_last, le-ltb, ne_eqb, same, told, not_told, and_told, told_not_under, told_same, not_under_told, same_told, or_neither)
 
-pub ruleset refusal = (onward, refuses, holds, holds_last, stops, stops_last, lt-ltb, eq-eqb, differ, told_under, told_differ, under_told, differ_told, or_first, or_second)
+pub ruleset refusal = (onward, refuses, handed_back, returned, holds, holds_last, stops, stops_last, lt-ltb, eq-eqb, differ, told_under, told_differ, under_told, differ_told, or_first, or_second)

@@ -7,10 +7,8 @@ use mathlib.Core.List.{List, [], ◌∷◌}
 use native.Mathlib.Omega.{arith}
 use borrow.Author.Tests.{eqb-true}
 use lib.Dec.{eqb}
-use Rattle.answers.specs.declared.Answer.{Answer}
-use Rattle.answers.specs.declared.Answer.TheVariants.{Accepted, Refused}
+use Rattle.answers.specs.Answer.{Answer, Accepted, Refused, number_of, when, shifted, zero_place, ◌then◌, Refusing, among, Among}
 use Rattle.answers.proofs.Answers.{and_both}
-use Rattle.answers.specs.Answer.{number_of, when, shifted, zero_place, ◌then◌, Refusing, among, Among}
 
 module _ (P : ℕ → ℕ → Type 0) where
   pub then-refusing : (a b : Answer) → Refusing P a → Refusing P b → Refusing P (a then b)

@@ -4,8 +4,7 @@ use mathlib.Core.Path.{◌≡◌, refl, sym, ◌∙◌}
 use mathlib.Core.Bool.{Bool, true, false, true≢false}
 use mathlib.Core.Logic.{◌↔◌}
 use mathlib.Core.List.{List, [], ◌∷◌}
-use Rattle.answers.specs.declared.Answer.TheVariants.{Accepted, Refused}
-use Rattle.answers.specs.Answer.{when, ◌then◌, among, Among}
+use Rattle.answers.specs.Answer.{Accepted, Refused, when, ◌then◌, among, Among}
 use Rattle.answers.specs.Reasons.{Reason}
 use Rattle.answers.specs.Rows.{Row, first_row, RowByRow}
 use Rattle.answers.proofs.Answers.{not-accepted, refused-not, first-ok, second-ok, when-ok, and_both}

@@ -1,7 +1,13 @@
 -- What a test answers, and how tests follow one another. Assumes nothing: these are definitions.
 use Rattle.std.specs.Prelude.{ℕ, ◌+◌, ◌≡◌, Bool, true, false, ◌||◌, List, [], ◌∷◌, ltb, eqb}
-use Rattle.answers.specs.declared.Answer.{Answer}
-use Rattle.answers.specs.declared.Answer.TheVariants.{Accepted, Refused}
+use Rattle.std.specs.Prelude.{Result, Ok, Err}
+use Rattle.answers.specs.Causes.{number}
+use Rattle.answers.specs.declared.Refusal.{Refusal}
+
+-- "Every answer has a number (0 accepted) and a byte place, 0 where none is stated"
+pub data Answer : Type 0 where
+  Accepted : Answer
+  Refused : ℕ → ℕ → Answer
 
 -- "Every answer has a number (0 accepted) and a byte place, 0 where none is stated"
 abbrev pub number_of : Answer → ℕ
@@ -11,6 +17,11 @@ number_of (Refused number place) = number
 abbrev pub place_of : Answer → ℕ
 place_of Accepted = 0
 place_of (Refused number place) = place
+
+-- what a call says that gives a value or a refusal
+abbrev pub answer_of : {T : Type 0} → Result T Refusal → Answer
+answer_of (Ok value) = Accepted
+answer_of (Err refusal) = Refused (number refusal.0) refusal.1
 
 -- that number at that place where the test holds
 unfoldable pub when : Bool → ℕ → ℕ → Answer

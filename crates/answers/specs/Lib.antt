@@ -1,3 +1,4 @@
 pub mod Answer
+pub mod Causes
 pub mod Reasons
 pub mod Rows

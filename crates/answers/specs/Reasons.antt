@@ -1,8 +1,7 @@
 -- "exactly when no reason to refuse holds, else the first that holds": what that says of a list of reasons. Assumes
 -- nothing: these are definitions.
 use Rattle.std.specs.Prelude.{◌≡◌, ◌⊎◌, List, [], ◌∷◌}
-use Rattle.answers.specs.declared.Answer.{Answer}
-use Rattle.answers.specs.declared.Answer.TheVariants.{Accepted}
+use Rattle.answers.specs.Answer.{Answer, Accepted}
 
 -- a reason to refuse, and what is answered for it
 pub record Reason : Type 1 where

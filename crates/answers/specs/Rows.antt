@@ -1,8 +1,6 @@
 -- A table of numbered tests in order, and its agreement with reasons in words. Assumes nothing: these are definitions.
 use Rattle.std.specs.Prelude.{ℕ, ◌≡◌, Bool, true, ◌↔◌, List, [], ◌∷◌}
-use Rattle.answers.specs.declared.Answer.{Answer}
-use Rattle.answers.specs.declared.Answer.TheVariants.{Accepted, Refused}
-use Rattle.answers.specs.Answer.{when, ◌then◌}
+use Rattle.answers.specs.Answer.{Answer, Accepted, Refused, when, ◌then◌}
 use Rattle.answers.specs.Reasons.{Reason}
 
 -- a number, and whether its test holds

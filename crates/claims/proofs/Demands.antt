@@ -17,9 +17,7 @@ use lib.ListN.{length, take, drop}
 use Rattle.octets.specs.Parts.{put_at, filled_front}
 use Rattle.octets.specs.Numbers.{Bytes, bytes_of}
 use Rattle.octets.proofs.AllBytes.{bytes-part}
-use Rattle.answers.specs.declared.Answer.{Answer}
-use Rattle.answers.specs.declared.Answer.TheVariants.{Accepted}
-use Rattle.answers.specs.Answer.{number_of, Among}
+use Rattle.answers.specs.Answer.{Answer, Accepted, number_of, Among}
 use Rattle.answers.specs.Reasons.{Reason, NoneHolds, FirstHolds}
 use Rattle.answers.proofs.Numbered.{zero_accepted, more_numbers}
 use Rattle.answers.proofs.Reasons.{one_first}

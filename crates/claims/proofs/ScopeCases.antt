@@ -8,8 +8,7 @@ use lib.ListN.{length, set}
 use lib.IntN.{pos, negsuc}
 use lib.Ieee.{fin}
 use Rattle.octets.specs.Numbers.{big_endian_from, number, units_at}
-use Rattle.answers.specs.declared.Answer.TheVariants.{Accepted, Refused}
-use Rattle.answers.specs.Answer.{when, ◌then◌}
+use Rattle.answers.specs.Answer.{Accepted, Refused, when, ◌then◌}
 use Rattle.sff_format.specs.Rules.{declared, index_size}
 use Rattle.sff_format.specs.Model.{File}
 use Rattle.sff_format.specs.ReadTest.{read_end}

@@ -9,7 +9,7 @@ use lib.ListN.{length, take, drop, get_or}
 use Rattle.octets.specs.Numbers.{Bytes, Words}
 use Rattle.octets.specs.Scans.{is_flow_character, is_name_byte}
 use Rattle.octets.proofs.Every.{every_left, every_right, every_both, every_at, at_every}
-use Rattle.answers.specs.declared.Answer.TheVariants.{Accepted}
+use Rattle.answers.specs.Answer.{Accepted}
 use Rattle.sff_format.specs.Rules.{left_limit, right_limit}
 use Rattle.sff_format.specs.Model.{Read, File, layout_read, layout}
 use Rattle.sff_format.specs.Valid.{ValidRead, IsBoundary, Valid}

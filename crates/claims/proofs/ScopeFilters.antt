@@ -5,8 +5,7 @@ use mathlib.Core.Logic.{◌⊎◌}
 use mathlib.Core.List.{List, [], ◌∷◌}
 use lib.ListN.{length, get_or}
 use Rattle.octets.specs.Numbers.{Bytes}
-use Rattle.answers.specs.declared.Answer.TheVariants.{Refused}
-use Rattle.answers.specs.Answer.{number_of}
+use Rattle.answers.specs.Answer.{Refused, number_of}
 use Rattle.filter_format.specs.Block.{filter_at}
 use Rattle.filter_format.specs.Undo.{making, refusing, filtered, undo, undo_layer, undo_from}
 use Rattle.filter_format.specs.Encode.{encode, SameFor}

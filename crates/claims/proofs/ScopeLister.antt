@@ -7,7 +7,7 @@ use mathlib.Core.List.{List, [], ◌∷◌, ◌++◌, flatten}
 use native.Mathlib.Nat.{zero-add}
 use lib.ListN.{length, set, get_or}
 use Rattle.octets.specs.Numbers.{Bytes}
-use Rattle.answers.specs.declared.Answer.TheVariants.{Accepted, Refused}
+use Rattle.answers.specs.Answer.{Accepted, Refused}
 use Rattle.sff_format.specs.FileTest.{file_test}
 use Rattle.sff_format.specs.Parse.{parse}
 use Rattle.sff_format.specs.Places.{read_at}

@@ -12,8 +12,7 @@ use lib.Ieee.{fin, binary64, div, of_int}
 use lib.Ieee.Exact.{HasValue}
 use Rattle.octets.specs.Parts.{part, up8}
 use Rattle.octets.specs.Numbers.{Bytes, Words, number}
-use Rattle.answers.specs.declared.Answer.TheVariants.{Accepted, Refused}
-use Rattle.answers.specs.Answer.{number_of, ◌then◌}
+use Rattle.answers.specs.Answer.{Accepted, Refused, number_of, ◌then◌}
 use Rattle.answers.proofs.Answers.{refused_or}
 use Rattle.sff_format.specs.declared.ReadView.{ReadView}
 use Rattle.sff_format.specs.Model.{Read}

@@ -9,8 +9,7 @@ use lib.ListN.{length, take}
 use Rattle.octets.specs.Parts.{put_at}
 use Rattle.octets.specs.Numbers.{Bytes, number}
 use Rattle.octets.proofs.AllBytes.{bytes_take}
-use Rattle.answers.specs.declared.Answer.TheVariants.{Accepted, Refused}
-use Rattle.answers.specs.Answer.{number_of}
+use Rattle.answers.specs.Answer.{Accepted, Refused, number_of}
 use Rattle.answers.proofs.Answers.{refused_or}
 use Rattle.sff_format.specs.Rules.{declared, bad_index}
 use Rattle.sff_format.specs.Model.{Read, File, no_index, layout_read, layout, with_reads}

@@ -4,7 +4,7 @@
 -- definitions.
 use Rattle.std.specs.Prelude.{ℕ, List, [], ◌∷◌, length, replicate}
 use Rattle.octets.specs.Parts.{put_at, filled}
-use Rattle.answers.specs.declared.Answer.{Answer}
+use Rattle.answers.specs.Answer.{Answer}
 use Rattle.sff_format.specs.declared.ReadView.{ReadView}
 use Rattle.sff_format.specs.Model.{Read}
 use Rattle.sff_format.specs.HeaderTest.{header_test}
@@ -14,7 +14,7 @@ use Rattle.sff_format.specs.Step.{State, step_answer, step}
 use Rattle.sff_format.specs.Position.{position_test, signal_test}
 use Rattle.sff_format.specs.Writing.{new_outcome, new_buffer, append_outcome, append_buffer}
 use Rattle.sff_format.specs.Numbers.{header_numbers, file_numbers, view_numbers, step_numbers, position_numbers, signal_numbers, new_numbers, append_numbers}
-use Rattle.correction_format.specs.declared.ListOutcome.{ListOutcome}
+use Rattle.correction_format.specs.ListRun.{ListOutcome}
 use Rattle.correction_format.specs.Record.{record_test}
 use Rattle.correction_format.specs.Correct.{correct_outcome, correct_buffer}
 use Rattle.correction_format.specs.ListRun.{first_records, run_list}

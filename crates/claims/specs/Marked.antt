@@ -1,9 +1,8 @@
 -- Document 01's "Checked examples" that are marked P, as one table. Assumes nothing: these are definitions.
 use Rattle.std.specs.Prelude.{ℕ, ◌≡◌, List, [], ◌∷◌, ◌++◌, length, set, take, drop, replicate}
 use Rattle.octets.specs.Parts.{put_at}
-use Rattle.answers.specs.declared.Answer.{Answer}
-use Rattle.answers.specs.declared.Answer.TheVariants.{Accepted, Refused}
-use Rattle.sff_format.specs.declared.Outcome.{Outcome}
+use Rattle.answers.specs.Answer.{Answer, Accepted, Refused}
+use Rattle.sff_format.specs.Writing.{Outcome}
 use Rattle.sff_format.specs.Model.{File, no_index, layout}
 use Rattle.sff_format.specs.FileTest.{file_test}
 use Rattle.sff_format.specs.Position.{file_insert, file_first, file_last}

@@ -4,10 +4,8 @@ use mathlib.Core.Path.{◌≡◌}
 use mathlib.Core.List.{◌++◌, append-nil}
 use native.Mathlib.Omega.{arith}
 use lib.ListN.{length, length-append}
-use Rattle.answers.specs.declared.Answer.{Answer}
-use Rattle.answers.specs.declared.Answer.TheVariants.{Accepted, Refused}
-use Rattle.answers.specs.Answer.{number_of, place_of}
-use Rattle.correction_format.specs.declared.ListOutcome.{ListOutcome}
+use Rattle.answers.specs.Answer.{Answer, Accepted, Refused, number_of, place_of}
+use Rattle.correction_format.specs.ListRun.{ListOutcome}
 use Rattle.lines.specs.Lines.{refusal_line, answer_line}
 use Rattle.lines.proofs.Lengths.{refusal_line_short, answer_line_short}
 use Rattle.correct_text.specs.Report.{refusal, reported}

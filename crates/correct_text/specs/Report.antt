@@ -1,9 +1,7 @@
 -- What `correct` prints of a list run, and whether it writes a new file. Assumes nothing: these are definitions.
 use Rattle.std.specs.Prelude.{ℕ, Bool, true, List, [], ◌++◌, ltb}
-use Rattle.answers.specs.declared.Answer.{Answer}
-use Rattle.answers.specs.declared.Answer.TheVariants.{Accepted, Refused}
-use Rattle.answers.specs.Answer.{number_of, place_of, accepted_or}
-use Rattle.correction_format.specs.declared.ListOutcome.{ListOutcome}
+use Rattle.answers.specs.Answer.{Answer, Accepted, Refused, number_of, place_of, accepted_or}
+use Rattle.correction_format.specs.ListRun.{ListOutcome}
 use Rattle.lines.specs.Lines.{refusal_line, answer_line}
 
 -- "The answer has their count and the number, place and length of the last record tried"

@@ -8,7 +8,7 @@ ghost use Rattle.text.specs.Writing.{IsPrefixLen, fitted, written};
 ghost use Rattle.lines.specs.Lines.{refusal_line, too_long, answer_line};
 ghost use Rattle.correct_text.specs.Report.{reported, is_written};
 
-use answers::Answer;
+use answers::{Cause, Refusal};
 use correction_format::ListOutcome;
 use lines::inner::{
     answer_length, put_answer_line, put_refusal_line, refusal_length, write_too_long,
@@ -22,13 +22,13 @@ fn put_carried_out(out: &mut [u8], count: usize, size: usize) -> Written
 {
     if out.len() < answer_length(count, 0, 0, size) {
         return Written {
-            answer: Answer::Refused(26, 0),
+            answer: Err(Refusal(Cause::NoRoom, 0)),
             length: 0,
         };
     }
     let length = put_answer_line(out, 0, count, 0, 0, size);
     Written {
-        answer: Answer::Accepted,
+        answer: Ok(()),
         length,
     }
 }
@@ -40,14 +40,14 @@ fn put_refused(out: &mut [u8], count: usize, number: usize, place: usize, size: 
 {
     if out.len() < answer_length(count, number, place, size) + refusal_length(number, place) {
         return Written {
-            answer: Answer::Refused(26, 0),
+            answer: Err(Refusal(Cause::NoRoom, 0)),
             length: 0,
         };
     }
     let next = put_answer_line(out, 0, count, number, place, size);
     let length = put_refusal_line(out, next, number, place);
     Written {
-        answer: Answer::Accepted,
+        answer: Ok(()),
         length,
     }
 }

@@ -7,9 +7,7 @@ use lib.ListN.{length, take, drop}
 use Rattle.octets.specs.Parts.{put_at}
 use Rattle.octets.specs.Numbers.{Bytes, bytes_of}
 use Rattle.octets.proofs.AllBytes.{bytes_take}
-use Rattle.answers.specs.declared.Answer.{Answer}
-use Rattle.answers.specs.declared.Answer.TheVariants.{Accepted, Refused}
-use Rattle.answers.specs.Answer.{number_of, Among}
+use Rattle.answers.specs.Answer.{Answer, Accepted, Refused, number_of, Among}
 use Rattle.answers.specs.Reasons.{NoneHolds, FirstHolds}
 use Rattle.answers.proofs.Reasons.{none_accepted}
 use Rattle.sff_format.specs.Model.{no_index, layout_read, layout_reads}

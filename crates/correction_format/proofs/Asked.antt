@@ -7,7 +7,7 @@ use native.Mathlib.Omega.{arith}
 use borrow.Author.Tests.{eq-eqb, ne_eqb}
 use lib.Dec.{eqb}
 use lib.ListN.{length}
-use Rattle.answers.specs.declared.Answer.TheVariants.{Accepted}
+use Rattle.answers.specs.Answer.{Accepted}
 use Rattle.correction_format.specs.declared.Fields.{Fields}
 use Rattle.correction_format.specs.Record.{kind, position, old_name, new_name, record_test}
 use Rattle.correction_format.specs.Correction.{clips, rename, remove, at_position}

@@ -7,8 +7,7 @@ use borrow.Author.Tests.{le-ltb}
 use lib.ListN.{length, take}
 use Rattle.octets.specs.Numbers.{Bytes}
 use Rattle.octets.proofs.FilledFront.{take_filled_front, length_filled_front}
-use Rattle.answers.specs.declared.Answer.TheVariants.{Accepted, Refused}
-use Rattle.answers.specs.Answer.{when, accepted_or, ◌then◌}
+use Rattle.answers.specs.Answer.{Accepted, Refused, when, accepted_or, ◌then◌}
 use Rattle.sff_format.specs.Valid.{Valid}
 use Rattle.sff_format.specs.FileTest.{file_test}
 use Rattle.sff_format.specs.Parse.{parse}

@@ -10,9 +10,7 @@ use lib.Dec.{ltb}
 use lib.ListN.{length, take, length-append}
 use lib.Seq.{length-take-le, take_at}
 use borrow.Author.Tests.{lt-ltb, ltb-true, ltb-false, not-false}
-use Rattle.answers.specs.declared.Answer.{Answer}
-use Rattle.answers.specs.declared.Answer.TheVariants.{Accepted, Refused}
-use Rattle.answers.specs.Answer.{accepted_or}
+use Rattle.answers.specs.Answer.{Answer, Accepted, Refused, accepted_or}
 use Rattle.answers.proofs.Answers.{first-ok, second-ok, under_ok}
 use Rattle.answers.proofs.Rows.{NoneOf, none_of}
 use Rattle.sff_format.specs.Rules.{declared}

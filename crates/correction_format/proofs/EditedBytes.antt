@@ -10,7 +10,7 @@ use Rattle.octets.specs.Parts.{put_at}
 use Rattle.octets.specs.Numbers.{Bytes, bytes_of}
 use Rattle.octets.proofs.Lists.{put_same}
 use Rattle.octets.proofs.Digits.{put_get}
-use Rattle.answers.specs.declared.Answer.TheVariants.{Accepted}
+use Rattle.answers.specs.Answer.{Accepted}
 use Rattle.sff_format.specs.Model.{Read, File, no_index, layout_read, layout_reads, layout}
 use Rattle.sff_format.specs.Valid.{Valid}
 use Rattle.sff_format.specs.HeaderTest.{read_count}

@@ -14,9 +14,7 @@ use Rattle.octets.specs.Parts.{same}
 use Rattle.octets.specs.Numbers.{Bytes}
 use Rattle.octets.proofs.Same.{same_is, is_same}
 use Rattle.octets.proofs.AllBytes.{bytes_take}
-use Rattle.answers.specs.declared.Answer.{Answer}
-use Rattle.answers.specs.declared.Answer.TheVariants.{Accepted, Refused}
-use Rattle.answers.specs.Answer.{number_of, accepted_or, ◌then◌, Refusing, among, Among}
+use Rattle.answers.specs.Answer.{Answer, Accepted, Refused, number_of, accepted_or, ◌then◌, Refusing, among, Among}
 use Rattle.answers.proofs.Answers.{not-accepted, first-ok, second-ok, both_ok, under_ok, ok_under, when-ok, or_left, or_right, cond_keeps}
 use Rattle.answers.proofs.Numbered.{zero_accepted, then-refusing, when-refusing, more_numbers}
 use Rattle.answers.proofs.Reasons.{Tests, when_tests, Judged, chain_judged}

@@ -15,8 +15,7 @@ use Rattle.octets.specs.Numbers.{Bytes}
 use Rattle.octets.proofs.Lists.{part-take}
 use Rattle.octets.proofs.AllBytes.{bytes_both, bytes_drop, bytes-filled}
 use Rattle.octets.proofs.FilledFront.{take_filled_front, length_filled_front, filled_front_again}
-use Rattle.answers.specs.declared.Answer.{Answer}
-use Rattle.answers.specs.declared.Answer.TheVariants.{Accepted, Refused}
+use Rattle.answers.specs.Answer.{Answer, Accepted, Refused}
 use Rattle.answers.specs.Reasons.{NoneHolds, FirstHolds}
 use Rattle.sff_format.specs.Model.{File, layout}
 use Rattle.sff_format.specs.Valid.{Valid, IsFile}

@@ -13,9 +13,7 @@ use Rattle.octets.specs.Parts.{filled_front}
 use Rattle.octets.specs.Numbers.{Bytes}
 use Rattle.octets.proofs.AllBytes.{bytes_take, bytes-part}
 use Rattle.octets.proofs.FilledFront.{take_filled_front, length_filled_front, filled_front_front, filled_front_again}
-use Rattle.answers.specs.declared.Answer.{Answer}
-use Rattle.answers.specs.declared.Answer.TheVariants.{Accepted, Refused}
-use Rattle.answers.specs.Answer.{accepted_or, when, ◌then◌, among, Among}
+use Rattle.answers.specs.Answer.{Answer, Accepted, Refused, accepted_or, when, ◌then◌, among, Among}
 use Rattle.answers.specs.Reasons.{NoneHolds, FirstHolds}
 use Rattle.sff_format.specs.Model.{File, layout}
 use Rattle.sff_format.specs.Valid.{Valid}

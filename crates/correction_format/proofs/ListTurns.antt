@@ -4,8 +4,7 @@ use mathlib.Core.Path.{◌≡◌, ◌∙◌}
 use mathlib.Core.List.{List}
 use lib.ListN.{length}
 use borrow.Author.Tests.{eq-eqb, ne_eqb}
-use Rattle.answers.specs.declared.Answer.TheVariants.{Accepted, Refused}
-use Rattle.answers.specs.Answer.{accepted_or}
+use Rattle.answers.specs.Answer.{Accepted, Refused, accepted_or}
 use Rattle.correction_format.specs.Correct.{correct_test, corrected, file_replaced}
 use Rattle.correction_format.specs.ListRun.{record_at, ran, turns, run_list}
 use Rattle.correction_format.proofs.Carried.{refused_outcome, refused_buffer, done-outcome, done-buffer}

@@ -13,8 +13,7 @@ use Rattle.octets.specs.Scans.{leading_count, Every, fails, is_name_byte, is_zer
 use Rattle.octets.proofs.Lists.{part_suc, length_part}
 use Rattle.octets.proofs.Every.{none_fails}
 use Rattle.octets.proofs.Stands.{number_small}
-use Rattle.answers.specs.declared.Answer.TheVariants.{Accepted}
-use Rattle.answers.specs.Answer.{when, ◌then◌}
+use Rattle.answers.specs.Answer.{Accepted, when, ◌then◌}
 use Rattle.answers.proofs.Answers.{first-ok, second-ok, when-ok, same_ok, or_left, or_right}
 use Rattle.correction_format.specs.Record.{kind, old_length, new_length, position, new_quality_left, new_quality_right, new_adapter_left, new_adapter_right, old_name, new_name, name_field_test, unused_test, new_clips_test, new_name_test, record_test}
 

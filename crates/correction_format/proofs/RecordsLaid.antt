@@ -17,7 +17,7 @@ use Rattle.octets.proofs.AllBytes.{bytes_both, bytes-fields, bytes-filled, bytes
 use Rattle.octets.proofs.Digits.{number_one}
 use Rattle.octets.proofs.Every.{none_fails, every_passes}
 use Rattle.octets.proofs.Stands.{Stands, Numbers, Fit, width, read-stands, stands_both, stands-left, stands_right, stands_self, length-filled, filled-stands, stands-filled, length_fields_lem, fields_stand, stand_fields}
-use Rattle.answers.specs.declared.Answer.TheVariants.{Accepted}
+use Rattle.answers.specs.Answer.{Accepted}
 use Rattle.answers.proofs.Answers.{both_ok, ok-when, ok_same}
 use Rattle.sff_format.proofs.Written.{name-small}
 use Rattle.correction_format.specs.Record.{kind, old_length, new_length, position, new_quality_left, new_quality_right, new_adapter_left, new_adapter_right, old_name, new_name, name_field_test, unused_test, new_clips_test, new_name_test, record_test}

@@ -1,9 +1,8 @@
 -- One correction, for every buffer, every stated length and every record. Assumes nothing: these are definitions.
 use Rattle.std.specs.Prelude.{ℕ, max, List, length, take, ltb}
 use Rattle.octets.specs.Parts.{filled_front}
-use Rattle.answers.specs.declared.Answer.{Answer}
-use Rattle.sff_format.specs.declared.Outcome.{Outcome}
-use Rattle.answers.specs.Answer.{when, accepted_or, ◌then◌}
+use Rattle.answers.specs.Answer.{Answer, when, accepted_or, ◌then◌}
+use Rattle.sff_format.specs.Writing.{Outcome}
 use Rattle.sff_format.specs.Model.{layout}
 use Rattle.sff_format.specs.FileTest.{file_test}
 use Rattle.sff_format.specs.Parse.{parse}

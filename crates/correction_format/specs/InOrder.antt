@@ -1,7 +1,7 @@
 -- Document 01's reasons to refuse a correction, in its order and in words of the model. Assumes nothing: these are
 -- definitions.
 use Rattle.std.specs.Prelude.{ℕ, ◌≤◌, ◌<◌, ◌≡◌, List, [], ◌∷◌, length, take}
-use Rattle.answers.specs.declared.Answer.TheVariants.{Refused}
+use Rattle.answers.specs.Answer.{Refused}
 use Rattle.answers.specs.Reasons.{Reason}
 use Rattle.sff_format.specs.Model.{File, no_index, layout}
 use Rattle.sff_format.specs.Rules.{left_limit, right_limit}

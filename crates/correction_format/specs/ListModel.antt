@@ -1,9 +1,7 @@
 -- A list of records over the model of the file, as its records have left it. Assumes nothing: these are definitions.
 use Rattle.std.specs.Prelude.{ℕ, zero, suc, ◌/◌, ◌%◌, max, cond, not, List, ◌∷◌, length, take, ltb, eqb}
 use Rattle.octets.specs.Parts.{filled_front}
-use Rattle.answers.specs.declared.Answer.{Answer}
-use Rattle.answers.specs.declared.Answer.TheVariants.{Accepted, Refused}
-use Rattle.answers.specs.Answer.{when, accepted_or, ◌then◌}
+use Rattle.answers.specs.Answer.{Answer, Accepted, Refused, when, accepted_or, ◌then◌}
 use Rattle.answers.specs.Reasons.{Reason}
 use Rattle.sff_format.specs.Model.{File, layout}
 use Rattle.sff_format.specs.FileTest.{file_test}

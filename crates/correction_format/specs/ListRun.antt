@@ -1,10 +1,8 @@
 -- A list of records, run in turn. Assumes nothing: these are definitions.
 use Rattle.std.specs.Prelude.{ℕ, zero, suc, ◌*◌, ◌/◌, ◌%◌, cond, List, length, take, eqb}
 use Rattle.octets.specs.Parts.{part}
-use Rattle.answers.specs.declared.Answer.{Answer}
-use Rattle.answers.specs.declared.Answer.TheVariants.{Accepted, Refused}
-use Rattle.answers.specs.Answer.{accepted_or}
-use Rattle.correction_format.specs.declared.ListOutcome.{ListOutcome}
+use Rattle.correction_format.specs.declared.ListOutcome as code
+use Rattle.answers.specs.Answer.{Answer, Accepted, Refused, answer_of, accepted_or}
 use Rattle.correction_format.specs.Correct.{correct_test, correct_outcome, correct_buffer}
 
 -- "A list is records of 96 bytes, no header": the record at position k of the list
@@ -14,6 +12,17 @@ record_at k list = part (96 * k) 96 list
 -- its first k records
 abbrev pub first_records : ℕ → List ℕ → List ℕ
 first_records k list = take (96 * k) list
+
+-- what a list run answers: how many records were carried out, and the answer and the file's length that the last record
+-- tried was given
+pub record ListOutcome : Type 0 where
+  pub count : ℕ
+  pub answer : Answer
+  pub length : ℕ
+
+-- what the code's form of it says
+abbrev pub list_outcome_of : code.ListOutcome → ListOutcome
+list_outcome_of outcome = record { count = outcome.count; answer = answer_of outcome.answer; length = outcome.length }
 
 -- what a run leaves: its answer and the buffer
 pub record Run : Type 0 where

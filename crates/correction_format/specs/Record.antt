@@ -3,9 +3,7 @@ use Rattle.std.specs.Prelude.{ℕ, ◌+◌, ◌-◌, cond, not, ◌||◌, List, 
 use Rattle.octets.specs.Parts.{part}
 use Rattle.octets.specs.Numbers.{number}
 use Rattle.octets.specs.Scans.{fails, is_name_byte, is_zero}
-use Rattle.answers.specs.declared.Answer.{Answer}
-use Rattle.answers.specs.declared.Answer.TheVariants.{Accepted}
-use Rattle.answers.specs.Answer.{when, ◌then◌}
+use Rattle.answers.specs.Answer.{Answer, Accepted, when, ◌then◌}
 
 -- "kind (0: 1 clips, 2 rename, 3 remove), old name length (1), new name length (2), zero (3), position from 0 (4 to 7),
 -- four new clips (8 to 15, file order), old name (16 to 55), new name (56 to 95)"

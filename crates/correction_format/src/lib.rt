@@ -2,14 +2,14 @@
 
 #![tactic(auto)]
 
-use answers::Answer;
+use answers::Refusal;
 
 // What a list run answers: how many records were carried out, and the answer and the file's length that the last record
 // tried was given.
 #[derive(Clone, Copy)]
 pub struct ListOutcome {
     pub count: usize,
-    pub answer: Answer,
+    pub answer: Result<(), Refusal>,
     pub length: usize,
 }
 

@@ -1,8 +1,7 @@
 -- Words of this crate's contracts: a part of a block's tests, and what undoing a filter asks. Assumes nothing: these
 -- are definitions.
 use Rattle.std.specs.Prelude.{ℕ, ◌≤◌, ◌≡◌, false, List, length, ltb}
-use Rattle.answers.specs.declared.Answer.{Answer}
-use Rattle.answers.specs.Answer.{when, ◌then◌}
+use Rattle.answers.specs.Answer.{Answer, when, ◌then◌}
 use Rattle.filter_format.specs.declared.Filter.{Filter}
 use Rattle.filter_format.specs.Block.{HasUnitWidth, header_length, data_at, bad_data, undone}
 

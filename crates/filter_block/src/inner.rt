@@ -1,14 +1,14 @@
 // For the crates above: each filter comes from a format byte, and a block is undone only after its tests, hence each
 // `requires`.
 ghost use Rattle.std.specs.Prelude.{◌≡◌, ◌*◌, ◌<◌, ◌≤◌, ltb, length};
-ghost use Rattle.answers.specs.Answer.{when};
+ghost use Rattle.answers.specs.Answer.{when, answer_of};
 ghost use Rattle.filter_format.specs.declared.Filter.TheVariants.{Raw, Delta, Narrow, Follow};
 ghost use Rattle.filter_format.specs.Units.{IsWidth};
 ghost use Rattle.filter_format.specs.Block.{filter_of, HasUnitWidth, filter_at, is_raw, is_filter, header_length, bad_level, bad_header, undone, contents_test};
 ghost use Rattle.filter_block.specs.Tests.{data_test, Undoable};
 ghost use Rattle.octets.specs.Parts.{put_at};
 
-use answers::Answer;
+use answers::{Cause, Refusal};
 use buffers::inner::copy;
 use filter_delta::inner::put_undelta;
 use filter_follow::inner::put_unfollowed;
@@ -121,72 +121,72 @@ fn bad_header(filter: Filter, block: &[u8]) -> bool
     }
 }
 
-fn room_test(n: usize, room: usize) -> Answer
-    ensures { result ≡ when (ltb room n) 26 0 }
+fn room_test(n: usize, room: usize) -> Result<(), Refusal>
+    ensures { answer_of result ≡ when (ltb room n) 26 0 }
 {
     if room < n {
-        return Answer::Refused(26, 0);
+        return Err(Refusal(Cause::NoRoom, 0));
     }
-    Answer::Accepted
+    Ok(())
 }
 
-fn delta_test(block: &[u8], width: usize, room: usize) -> Answer
+fn delta_test(block: &[u8], width: usize, room: usize) -> Result<(), Refusal>
     requires { (IsWidth width) × (header_length (Delta width) ≤ length block.now) }
-    ensures { result ≡ data_test (Delta width) room block.now }
+    ensures { answer_of result ≡ data_test (Delta width) room block.now }
 {
     let n = block.len() - header_length(Filter::Delta(width));
     if n % width != 0 {
-        return Answer::Refused(43, 0);
+        return Err(Refusal(Cause::Units, 0));
     }
     room_test(n, room)
 }
 
 // The units are counted, not their bytes, whose number could exceed 64 bits.
-fn narrow_test(block: &[u8], width: usize, room: usize) -> Answer
+fn narrow_test(block: &[u8], width: usize, room: usize) -> Result<(), Refusal>
     requires { (IsWidth width) × (1 ≤ length block.now) }
-    ensures { result ≡ data_test (Narrow width) room block.now }
+    ensures { answer_of result ≡ data_test (Narrow width) room block.now }
 {
     let counted = count_units(&block[1..], width);
     match counted {
-        Counted::Lacking => Answer::Refused(43, 0),
+        Counted::Lacking => Err(Refusal(Cause::Units, 0)),
         Counted::Units(n) => units_room_test(n, width, room),
     }
 }
 
-fn units_room_test(n: usize, width: usize, room: usize) -> Answer
+fn units_room_test(n: usize, width: usize, room: usize) -> Result<(), Refusal>
     requires { 0 < width }
-    ensures { result ≡ when (ltb room (n * width)) 26 0 }
+    ensures { answer_of result ≡ when (ltb room (n * width)) 26 0 }
 {
     if room / width < n {
-        return Answer::Refused(26, 0);
+        return Err(Refusal(Cause::NoRoom, 0));
     }
-    Answer::Accepted
+    Ok(())
 }
 
 // The tests of the data and of the room.
-fn data_test(filter: Filter, block: &[u8], room: usize) -> Answer
+fn data_test(filter: Filter, block: &[u8], room: usize) -> Result<(), Refusal>
     requires { (HasUnitWidth filter) × (header_length filter ≤ length block.now) }
-    ensures { result ≡ data_test filter room block.now }
+    ensures { answer_of result ≡ data_test filter room block.now }
 {
     match filter {
         Filter::Raw => room_test(block.len() - 1, room),
         Filter::Delta(width) => delta_test(block, width, room),
         Filter::Narrow(width) => narrow_test(block, width, room),
         Filter::Follow => room_test(block.len() - 257, room),
-        Filter::Other => Answer::Accepted,
+        Filter::Other => Ok(()),
     }
 }
 
 // The tests of a block that has a format byte, from its header on.
-pub fn contents_test(filter: Filter, block: &[u8], room: usize) -> Answer
+pub fn contents_test(filter: Filter, block: &[u8], room: usize) -> Result<(), Refusal>
     requires { HasUnitWidth filter }
-    ensures { result ≡ contents_test filter room block.now }
+    ensures { answer_of result ≡ contents_test filter room block.now }
 {
     if block.len() < header_length(filter) {
-        return Answer::Refused(40, 0);
+        return Err(Refusal(Cause::BlockCutShort, 0));
     }
     if bad_header(filter, block) {
-        return Answer::Refused(42, 0);
+        return Err(Refusal(Cause::BlockHeader, 0));
     }
     data_test(filter, block, room)
 }

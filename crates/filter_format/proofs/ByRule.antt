@@ -10,8 +10,7 @@ use borrow.Author.Tests.{leb-true, leb-false}
 use lib.Dec.{leb}
 use lib.ListN.{length, get_or, replicate}
 use Rattle.octets.specs.Numbers.{Below, Bytes, bytes_of, unit_bytes}
-use Rattle.answers.specs.declared.Answer.TheVariants.{Accepted}
-use Rattle.answers.specs.Answer.{number_of}
+use Rattle.answers.specs.Answer.{Accepted, number_of}
 use Rattle.answers.proofs.Answers.{first-ok, second-ok, when-ok}
 use Rattle.filter_format.specs.declared.Filter.TheVariants.{Delta, Narrow, Follow}
 use Rattle.filter_format.specs.Units.{range, units_of}

@@ -4,8 +4,7 @@ use mathlib.Core.List.{List, [], ◌∷◌}
 use Prim.Native.Nat.{ℕ, zero, suc}
 use Rattle.octets.specs.Numbers.{big_endian_from, number, bytes_of, unit_bytes, units_at}
 use Rattle.octets.specs.Scans.{leading_count, first_not}
-use Rattle.answers.specs.declared.Answer.TheVariants.{Refused}
-use Rattle.answers.specs.Answer.{when, ◌then◌, accepted_or}
+use Rattle.answers.specs.Answer.{Refused, when, ◌then◌, accepted_or}
 use Rattle.filter_format.specs.Delta.{scan, deltas, undeltas, delta_bytes, undelta_bytes}
 use Rattle.filter_format.specs.Block.{filter_of, header_length, bad_header, bad_data, decoded, undone, contents_test}
 use Rattle.filter_format.specs.Undo.{making, refusing, block_test, undo_from, undo}

@@ -11,8 +11,7 @@ use lib.Dec.{eqb, leb, ltb}
 use lib.ListN.{length, get_or}
 use Rattle.octets.specs.Numbers.{big_endian_from, number, bytes_of, units_at}
 use Rattle.octets.specs.Scans.{leading_count, first_not, is_zero}
-use Rattle.answers.specs.declared.Answer.TheVariants.{Accepted, Refused}
-use Rattle.answers.specs.Answer.{when, ◌then◌, accepted_or}
+use Rattle.answers.specs.Answer.{Accepted, Refused, when, ◌then◌, accepted_or}
 use Rattle.answers.proofs.Answers.{first-ok, second-ok, when-ok, or_left, or_right, and_both}
 use Rattle.filter_format.specs.declared.Filter.TheVariants.{Delta}
 use Rattle.filter_format.specs.Narrow.{narrow_unit, narrow, extended, widen, lacking}

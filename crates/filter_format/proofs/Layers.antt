@@ -14,8 +14,7 @@ use Rattle.octets.specs.Numbers.{Bytes}
 use Rattle.octets.specs.Scans.{leading_count, one_more, first_not, is_zero}
 use Rattle.octets.proofs.Lists.{length_part}
 use Rattle.octets.proofs.AllBytes.{bytes-part, bytes_drop}
-use Rattle.answers.specs.declared.Answer.TheVariants.{Accepted, Refused}
-use Rattle.answers.specs.Answer.{when, ◌then◌, accepted_or}
+use Rattle.answers.specs.Answer.{Accepted, Refused, when, ◌then◌, accepted_or}
 use Rattle.answers.proofs.Answers.{first-ok, second-ok, both_ok, when-ok, ok-when, ok_under, or_left, or_right}
 use Rattle.filter_format.specs.declared.Filter.{Filter}
 use Rattle.filter_format.specs.declared.Filter.TheVariants.{Raw, Delta, Narrow, Follow, Other}

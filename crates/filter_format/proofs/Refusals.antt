@@ -4,9 +4,7 @@ use Prim.Native.Nat.{ℕ, zero, suc}
 use mathlib.Core.Path.{◌≡◌, refl}
 use mathlib.Core.Bool.{Bool, true, false, cond}
 use mathlib.Core.List.{List, []}
-use Rattle.answers.specs.declared.Answer.{Answer}
-use Rattle.answers.specs.declared.Answer.TheVariants.{Accepted, Refused}
-use Rattle.answers.specs.Answer.{number_of, accepted_or, among, Among}
+use Rattle.answers.specs.Answer.{Answer, Accepted, Refused, number_of, accepted_or, among, Among}
 use Rattle.answers.proofs.Answers.{cond_keeps, either_keeps}
 use Rattle.answers.proofs.Numbered.{zero_accepted, then-refusing, when-refusing, more_numbers}
 use Rattle.filter_format.specs.declared.Filter.{Filter}

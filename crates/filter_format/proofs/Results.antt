@@ -6,9 +6,7 @@ use Prim.Native.Nat.{ℕ}
 use lib.ListN.{length}
 use Rattle.octets.specs.Parts.{put_at}
 use Rattle.octets.proofs.Lists.{put_nil}
-use Rattle.answers.specs.declared.Answer.{Answer}
-use Rattle.answers.specs.declared.Answer.TheVariants.{Accepted, Refused}
-use Rattle.answers.specs.Answer.{number_of, accepted_or}
+use Rattle.answers.specs.Answer.{Answer, Accepted, Refused, number_of, accepted_or}
 use Rattle.filter_format.specs.Undo.{making, tested, filtered}
 use Rattle.filter_format.specs.Encode.{out_after}
 

@@ -8,7 +8,7 @@ use borrow.Author.Tests.{eqb-true, not-false}
 use lib.Dec.{eqb}
 use lib.ListN.{length}
 use Rattle.octets.specs.Numbers.{Bytes}
-use Rattle.answers.specs.declared.Answer.TheVariants.{Accepted}
+use Rattle.answers.specs.Answer.{Accepted}
 use Rattle.answers.proofs.Answers.{first-ok, second-ok, both_ok, when-ok, under_ok, ok_under, same_ok}
 use Rattle.filter_format.specs.Units.{IsWidth}
 use Rattle.filter_format.specs.Delta.{delta_bytes, undelta_bytes}

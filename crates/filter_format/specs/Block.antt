@@ -3,8 +3,7 @@
 use Rattle.std.specs.Prelude.{ℕ, ◌≤◌, Bool, true, false, cond, not, ◌&&◌, ◌||◌, List, [], length, drop, get_or, eqb, leb, ltb}
 use Rattle.octets.specs.Parts.{part}
 use Rattle.octets.specs.Scans.{first_not, is_zero}
-use Rattle.answers.specs.declared.Answer.{Answer}
-use Rattle.answers.specs.Answer.{when, ◌then◌}
+use Rattle.answers.specs.Answer.{Answer, when, ◌then◌}
 use Rattle.filter_format.specs.declared.Filter.{Filter}
 use Rattle.filter_format.specs.declared.Filter.TheVariants.{Raw, Delta, Narrow, Follow, Other}
 use Rattle.filter_format.specs.Units.{IsWidth, not_whole}

@@ -1,8 +1,7 @@
 -- Encoding one layer. Assumes nothing: these are definitions.
 use Rattle.std.specs.Prelude.{ℕ, ◌-◌, Bool, false, not, ◌≡◌, List, [], ◌∷◌, ◌++◌, length, replicate, eqb, ltb}
 use Rattle.octets.specs.Parts.{put_at}
-use Rattle.answers.specs.declared.Answer.{Answer}
-use Rattle.answers.specs.Answer.{when, ◌then◌}
+use Rattle.answers.specs.Answer.{Answer, when, ◌then◌}
 use Rattle.filter_format.specs.declared.Filter.{Filter}
 use Rattle.filter_format.specs.declared.Filter.TheVariants.{Raw, Delta, Narrow, Follow, Other}
 use Rattle.filter_format.specs.Units.{units_of, not_whole}

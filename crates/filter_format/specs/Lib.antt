@@ -7,6 +7,7 @@ pub mod Narrow
 pub mod Follow
 pub mod Block
 pub mod Undo
+pub mod Made
 pub mod Encode
 pub mod Rules
 pub mod Samples

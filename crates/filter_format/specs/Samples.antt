@@ -1,7 +1,6 @@
 -- "SCF samples of precision 1 or 2 are level 2 without block bytes". Assumes nothing: these are definitions.
 use Rattle.std.specs.Prelude.{ℕ, not, ◌||◌, List, length, eqb, ltb}
-use Rattle.answers.specs.declared.Answer.{Answer}
-use Rattle.answers.specs.Answer.{when, ◌then◌}
+use Rattle.answers.specs.Answer.{Answer, when, ◌then◌}
 use Rattle.filter_format.specs.Units.{not_whole}
 use Rattle.filter_format.specs.Delta.{delta_bytes, undelta_bytes}
 use Rattle.filter_format.specs.Undo.{Result, tested}

@@ -1,10 +1,7 @@
 -- Undoing: one layer alone, and layer after layer until format 0. Assumes nothing: these are definitions.
 use Rattle.std.specs.Prelude.{ℕ, zero, suc, min, cond, not, ◌&&◌, List, [], length, eqb}
 use Rattle.octets.specs.Parts.{filled}
-use Rattle.answers.specs.declared.Answer.{Answer}
-use Rattle.answers.specs.declared.Answer.TheVariants.{Accepted}
-use Rattle.answers.specs.Answer.{when, ◌then◌, accepted_or}
-use Rattle.filter_format.specs.declared.Filtered.{Filtered}
+use Rattle.answers.specs.Answer.{Answer, Accepted, when, ◌then◌, accepted_or}
 use Rattle.filter_format.specs.Block.{filter_at, is_raw, is_filter, contents_test, undone}
 
 -- the result of a call: its answer, and the bytes that it makes, none where it refuses
@@ -53,6 +50,11 @@ most_filters = 8
 -- a whole block, undone until format 0
 abbrev pub undo : ℕ → List ℕ → Result
 undo room block = undo_from most_filters room block
+
+-- what a filter answers: its refusal or none, and how many bytes it made
+pub record Filtered : Type 0 where
+  pub answer : Answer
+  pub made : ℕ
 
 -- what a call answers: "a filter the number of bytes it made (refused: 0)"
 abbrev pub filtered : Result → Filtered

@@ -7,9 +7,8 @@ use native.Mathlib.Omega.{arith}
 use lib.ListN.{length, take}
 use Rattle.octets.specs.Parts.{part, put_at, filled}
 use Rattle.octets.proofs.Lists.{take-front, length_put, length_part}
-use Rattle.answers.specs.declared.Answer.{Answer}
-use Rattle.answers.specs.declared.Answer.TheVariants.{Accepted}
-use Rattle.filter_format.specs.declared.Filtered.{Filtered}
+use Rattle.answers.specs.Answer.{Answer, Accepted}
+use Rattle.filter_format.specs.Undo.{Filtered}
 use Rattle.filter_format.specs.Undo.{Result, making, refusing, filtered, second_after}
 use Rattle.filter_undo.specs.Sides.{Undid}
 

@@ -9,9 +9,7 @@ use lib.Dec.{eqb}
 use lib.ListN.{length, take, get_or}
 use Rattle.octets.specs.Parts.{part}
 use Rattle.octets.proofs.Lists.{drop-take}
-use Rattle.answers.specs.declared.Answer.{Answer}
-use Rattle.answers.specs.declared.Answer.TheVariants.{Accepted, Refused}
-use Rattle.answers.specs.Answer.{when, ◌then◌, accepted_or}
+use Rattle.answers.specs.Answer.{Answer, Accepted, Refused, when, ◌then◌, accepted_or}
 use Rattle.answers.proofs.Answers.{first-ok, second-ok, when-ok}
 use Rattle.filter_format.specs.declared.Filter.{Filter}
 use Rattle.filter_format.specs.declared.Filter.TheVariants.{Raw, Delta, Narrow, Follow, Other}

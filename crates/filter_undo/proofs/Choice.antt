@@ -9,11 +9,9 @@ use lib.ListN.{length, take}
 use lib.Seq.{length-take-le}
 use Rattle.octets.specs.Parts.{part, filled}
 use Rattle.octets.proofs.Lists.{length_part}
-use Rattle.answers.specs.declared.Answer.{Answer}
-use Rattle.answers.specs.declared.Answer.TheVariants.{Accepted, Refused}
-use Rattle.answers.specs.Answer.{accepted_or}
+use Rattle.answers.specs.Answer.{Answer, Accepted, Refused, accepted_or}
 use Rattle.filter_format.specs.declared.Filter.{Filter}
-use Rattle.filter_format.specs.declared.Filtered.{Filtered}
+use Rattle.filter_format.specs.Undo.{Filtered}
 use Rattle.filter_format.specs.Block.{filter_at, is_raw, header_length, undone}
 use Rattle.filter_format.specs.Undo.{making, refusing, filtered, second_after, room_of, block_test, layer_test, undo_from, undo_layer}
 use Rattle.filter_block.specs.Tests.{Undoable}

@@ -1,7 +1,7 @@
 -- The words of this crate's contracts, for two buffers that change places at each layer. Assumes nothing: these are
 -- definitions.
 use Rattle.std.specs.Prelude.{◌≡◌, Bool, true, false, not, List, ℕ}
-use Rattle.filter_format.specs.declared.Filtered.{Filtered}
+use Rattle.filter_format.specs.Undo.{Filtered}
 use Rattle.filter_format.specs.Undo.{Result, filtered, first_after, second_after}
 
 -- what a buffer holds afterwards, by whether it is the caller's first

@@ -2,47 +2,52 @@
 // layer the buffers change places and one filter less may be opened.
 ghost use Rattle.std.specs.Prelude.{◌≡◌, ◌-◌, ◌<◌, ◌≤◌, length, take};
 ghost use Rattle.octets.specs.Parts.{part};
-ghost use Rattle.answers.specs.declared.Answer.TheVariants.{Refused};
+ghost use Rattle.answers.specs.Answer.{Refused, answer_of};
 ghost use Rattle.filter_format.specs.Block.{filter_at, undone};
 ghost use Rattle.filter_format.specs.Undo.{filtered, refusing, making, first_after, second_after, room_of, block_test, layer_test, undo_from};
 ghost use Rattle.filter_block.specs.Tests.{Undoable};
 ghost use Rattle.filter_undo.specs.Sides.{Undid};
 
-use answers::Answer;
+use answers::{Cause, Refusal};
 use buffers::inner::{clear_behind, copy, move_down};
 use filter_block::inner::{contents_test, filter_at, is_filter, is_raw, undo_filter};
 use filter_format::{Filter, Filtered};
 use octets::least;
 
 // The tests of a block in a chain, where `left` filters may still be opened.
-pub(crate) fn block_test(filter: Filter, block: &[u8], left: usize, room: usize) -> Answer
+pub(crate) fn block_test(
+    filter: Filter,
+    block: &[u8],
+    left: usize,
+    room: usize,
+) -> Result<(), Refusal>
     requires { filter ≡ filter_at block.now }
-    ensures { result ≡ block_test left room block.now }
+    ensures { answer_of result ≡ block_test left room block.now }
 {
     if block.len() == 0 {
-        return Answer::Refused(40, 0);
+        return Err(Refusal(Cause::BlockCutShort, 0));
     }
     let raw = is_raw(filter);
     let filters = is_filter(filter);
     if !raw & !filters {
-        return Answer::Refused(41, 0);
+        return Err(Refusal(Cause::Format, 0));
     }
     if filters & (left == 0) {
-        return Answer::Refused(44, 0);
+        return Err(Refusal(Cause::Layers, 0));
     }
     contents_test(filter, block, room)
 }
 
 // The tests of a layer that is undone alone.
-pub(crate) fn layer_test(filter: Filter, block: &[u8], room: usize) -> Answer
+pub(crate) fn layer_test(filter: Filter, block: &[u8], room: usize) -> Result<(), Refusal>
     requires { filter ≡ filter_at block.now }
-    ensures { result ≡ layer_test room block.now }
+    ensures { answer_of result ≡ layer_test room block.now }
 {
     if block.len() == 0 {
-        return Answer::Refused(40, 0);
+        return Err(Refusal(Cause::BlockCutShort, 0));
     }
     if !is_filter(filter) {
-        return Answer::Refused(41, 0);
+        return Err(Refusal(Cause::Format, 0));
     }
     contents_test(filter, block, room)
 }
@@ -72,7 +77,7 @@ fn result_here(here: &mut [u8], there: &mut [u8], n: usize) -> Filtered
     clear_behind(here, n);
     clear_behind(there, 0);
     Filtered {
-        answer: Answer::Accepted,
+        answer: Ok(()),
         made: n,
     }
 }
@@ -88,7 +93,7 @@ fn result_there(here: &mut [u8], there: &mut [u8], n: usize) -> Filtered
     clear_behind(there, n);
     clear_behind(here, 0);
     Filtered {
-        answer: Answer::Accepted,
+        answer: Ok(()),
         made: n,
     }
 }

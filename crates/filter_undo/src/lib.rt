@@ -6,7 +6,6 @@ ghost use Rattle.std.specs.Prelude.{◌≡◌};
 ghost use Rattle.filter_format.specs.Undo.{filtered, room_of, first_after, second_after, undo, undo_layer};
 
 use crate::inner::{block_test, choose, layer_test, refuse};
-use answers::Answer;
 use buffers::inner::clear_behind;
 use filter_block::inner::{filter_at, is_raw, undo_filter};
 use filter_format::Filtered;
@@ -31,7 +30,7 @@ pub fn undo(block: &[u8], first: &mut [u8], second: &mut [u8]) -> Filtered
         clear_behind(first, made);
         clear_behind(second, 0);
         return Filtered {
-            answer: Answer::Accepted,
+            answer: Ok(()),
             made: made,
         };
     }
@@ -54,7 +53,7 @@ pub fn undo_layer(block: &[u8], first: &mut [u8], second: &mut [u8]) -> Filtered
     clear_behind(first, made);
     clear_behind(second, 0);
     Filtered {
-        answer: Answer::Accepted,
+        answer: Ok(()),
         made: made,
     }
 }

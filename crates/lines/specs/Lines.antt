@@ -1,8 +1,7 @@
 -- The lines that the programs print, document 01's words in quotation marks: of a file's header, of a read, of a
 -- refusal, of an input that is too long, of a list run's answer. Assumes nothing: these are definitions.
 use Rattle.std.specs.Prelude.{ℕ, cond, List, [], ◌∷◌, ◌++◌, length, ltb}
-use Rattle.answers.specs.declared.Answer.{Answer}
-use Rattle.answers.specs.declared.Answer.TheVariants.{Accepted, Refused}
+use Rattle.answers.specs.Answer.{Answer, Accepted, Refused}
 use Rattle.text.specs.Writing.{or_dash}
 use Rattle.text.specs.Decimal.{decimal}
 

@@ -6,7 +6,7 @@ ghost use Rattle.octets.specs.Parts.{put_at};
 ghost use Rattle.text.specs.Writing.{Room, fitted, written};
 ghost use Rattle.lines.specs.Lines.{number_field, word_field, labelled_number, labelled_word, header_line, extent, read_line, refusal_line, too_long, answer_line};
 
-use answers::Answer;
+use answers::{Cause, Refusal};
 use text::Written;
 use text::inner::{
     number_length, put_byte, put_bytes, put_number, put_or_dash, room_after, word_length,
@@ -172,13 +172,13 @@ pub fn write_refusal(out: &mut [u8], number: usize, place: usize) -> Written
 {
     if out.len() < refusal_length(number, place) {
         return Written {
-            answer: Answer::Refused(26, 0),
+            answer: Err(Refusal(Cause::NoRoom, 0)),
             length: 0,
         };
     }
     let length = put_refusal_line(out, 0, number, place);
     Written {
-        answer: Answer::Accepted,
+        answer: Ok(()),
         length,
     }
 }
@@ -190,13 +190,13 @@ pub fn write_too_long(out: &mut [u8]) -> Written
 {
     if out.len() < 9 {
         return Written {
-            answer: Answer::Refused(26, 0),
+            answer: Err(Refusal(Cause::NoRoom, 0)),
             length: 0,
         };
     }
     let length = put_bytes(out, 0, b"too long\n");
     Written {
-        answer: Answer::Accepted,
+        answer: Ok(()),
         length,
     }
 }

@@ -8,7 +8,7 @@ use lib.Dec.{ltb}
 use lib.ListN.{length, get_or}
 use borrow.Author.Tests.{ltb-false, lt-ltb, le-ltb}
 use Rattle.octets.specs.Numbers.{Bytes}
-use Rattle.answers.specs.declared.Answer.TheVariants.{Accepted, Refused}
+use Rattle.answers.specs.Answer.{Accepted, Refused}
 use Rattle.sff_format.specs.Model.{Read}
 use Rattle.sff_format.specs.FileTest.{file_test}
 use Rattle.sff_format.specs.Parse.{parse}

@@ -10,7 +10,7 @@ use borrow.Author.Tests.{ltb-true, ltb-false, le-ltb, eq-eqb, ne_eqb, not-true}
 use Rattle.octets.specs.Parts.{whole_part}
 use Rattle.octets.specs.Numbers.{Bytes}
 use Rattle.octets.proofs.Lists.{whole_in}
-use Rattle.answers.specs.declared.Answer.TheVariants.{Accepted, Refused}
+use Rattle.answers.specs.Answer.{Accepted, Refused}
 use Rattle.sff_format.specs.HeaderTest.{read_count, header_length, key_length, flows, key_characters}
 use Rattle.sff_format.specs.FileTest.{file_test}
 use Rattle.sff_format.specs.Parse.{parse}

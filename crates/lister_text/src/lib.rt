@@ -4,7 +4,7 @@
 
 ghost use Rattle.std.specs.Prelude.{◌≡◌, not, ◌++◌, ◌+◌, ◌-◌, ◌^◌, ◌<◌, ltb, length, replicate};
 ghost use Rattle.octets.specs.Parts.{put_at};
-ghost use Rattle.answers.specs.declared.Answer.TheVariants.{Accepted};
+ghost use Rattle.answers.specs.Answer.{Accepted};
 ghost use Rattle.sff_format.specs.HeaderTest.{read_count, flows};
 ghost use Rattle.sff_format.specs.FileTest.{file_test};
 ghost use Rattle.sff_format.specs.Parse.{parse};
@@ -15,7 +15,7 @@ ghost use Rattle.text.specs.Writing.{IsPrefixLen, Room, fitted, written};
 ghost use Rattle.lines.specs.Lines.{header_line};
 ghost use Rattle.lister_text.specs.Listing.{view_line, lines_from, file_lines, listing, enough, printed};
 
-use answers::Answer;
+use answers::{Cause, Refusal};
 use lines::inner::{
     after_header_line, after_read_line, put_header_line, put_read_line, write_refusal,
     write_too_long,
@@ -172,14 +172,14 @@ fn put_file(file: &[u8], out: &mut [u8]) -> Written
     let key = whole_part(file, 31 + header.flows, header.key_length);
     if lacks_room(file, header, key, out.len()) {
         return Written {
-            answer: Answer::Refused(26, 0),
+            answer: Err(Refusal(Cause::NoRoom, 0)),
             length: 0,
         };
     }
     let next = put_header_line(out, 0, header.flows, key, header.reads);
     let length = put_reads(file, header, out, next);
     Written {
-        answer: Answer::Accepted,
+        answer: Ok(()),
         length,
     }
 }

@@ -2,7 +2,6 @@
 
 #![tactic(auto)]
 
-use answers::Answer;
 use lines::inner::write_refusal;
 use octets::whole_part;
 use std::io;

@@ -1,12 +1,13 @@
 // For the crates above. Those that test clips know that a read has fewer than 2^32 bases and that its place leaves room
 // for its fields: hence each `requires`.
 ghost use Rattle.std.specs.Prelude.{◌≡◌, ◌+◌, ◌<◌};
+ghost use Rattle.answers.specs.Answer.{answer_of};
 ghost use Rattle.sff_format.specs.Rules.{left_limit, right_limit};
 ghost use Rattle.sff_format.specs.ReadTest.{clip_test};
 ghost use Rattle.sff_format.specs.View.{view_span};
 
 use crate::{first_base, last_base};
-use answers::Answer;
+use answers::{Cause, Refusal};
 use octets::greatest;
 use sff_format::{ReadView, Span};
 use sff_walk::BasePosition;
@@ -34,25 +35,25 @@ pub fn clip_test(
     quality_right: BasePosition,
     adapter_left: BasePosition,
     adapter_right: BasePosition,
-) -> Answer
+) -> Result<(), Refusal>
     requires { (place + 16 < 18446744073709551616) × (bases < 4294967296) }
-    ensures { result ≡ clip_test place bases quality_left.0 quality_right.0 adapter_left.0 adapter_right.0 }
+    ensures { answer_of result ≡ clip_test place bases quality_left.0 quality_right.0 adapter_left.0 adapter_right.0 }
 {
     let left = left_limit(bases);
     let right = right_limit(bases);
     if quality_left.0 > left.0 {
-        return Answer::Refused(9, place + 8);
+        return Err(Refusal(Cause::Clip, place + 8));
     }
     if quality_right.0 > right.0 {
-        return Answer::Refused(9, place + 10);
+        return Err(Refusal(Cause::Clip, place + 10));
     }
     if adapter_left.0 > left.0 {
-        return Answer::Refused(9, place + 12);
+        return Err(Refusal(Cause::Clip, place + 12));
     }
     if adapter_right.0 > right.0 {
-        return Answer::Refused(9, place + 14);
+        return Err(Refusal(Cause::Clip, place + 14));
     }
-    Answer::Accepted
+    Ok(())
 }
 
 // Where the insert lies in whatever a read has one of for each base: its bases, its qualities.

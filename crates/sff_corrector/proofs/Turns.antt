@@ -9,10 +9,8 @@ use borrow.Author.Tests.{lt-ltb}
 use lib.ListN.{length, take}
 use Rattle.octets.specs.Numbers.{Bytes}
 use Rattle.octets.proofs.AllBytes.{bytes_take}
-use Rattle.answers.specs.declared.Answer.{Answer}
-use Rattle.answers.specs.declared.Answer.TheVariants.{Accepted, Refused}
-use Rattle.sff_format.specs.declared.Outcome.{Outcome}
-use Rattle.answers.specs.Answer.{when, ◌then◌}
+use Rattle.answers.specs.Answer.{Answer, Accepted, Refused, when, ◌then◌}
+use Rattle.sff_format.specs.Writing.{Outcome}
 use Rattle.answers.proofs.Rows.{row-holds}
 use Rattle.sff_format.specs.HeaderTest.{read_count}
 use Rattle.sff_format.specs.FileTest.{file_test}
@@ -21,7 +19,7 @@ use Rattle.sff_format.specs.Places.{read_place}
 use Rattle.sff_format.proofs.FileLaid.{reads-counted}
 use Rattle.sff_format.proofs.Written.{layout-bytes}
 use Rattle.sff_format.proofs.Places.{place_found}
-use Rattle.correction_format.specs.declared.ListOutcome.{ListOutcome}
+use Rattle.correction_format.specs.ListRun.{ListOutcome}
 use Rattle.correction_format.specs.declared.Fields.{Fields}
 use Rattle.correction_format.specs.Record.{position, record_test}
 use Rattle.correction_format.specs.Fields.{fields_at, asked}

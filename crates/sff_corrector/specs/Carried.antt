@@ -1,7 +1,7 @@
 -- What the code says of a record that was tried, in the definitions' words. Assumes nothing: these are definitions.
 use Rattle.std.specs.Prelude.{ℕ, ◌≤◌, ◌≡◌, List, length, take}
-use Rattle.answers.specs.declared.Answer.TheVariants.{Accepted, Refused}
-use Rattle.sff_format.specs.declared.Outcome.{Outcome}
+use Rattle.answers.specs.Answer.{Accepted, Refused}
+use Rattle.sff_format.specs.Writing.{Outcome}
 use Rattle.sff_format.specs.FileTest.{file_test}
 use Rattle.sff_find.specs.Mark.{Marked}
 use Rattle.sff_corrector.specs.declared.Carried.{Carried}

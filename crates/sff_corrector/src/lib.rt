@@ -5,7 +5,7 @@
 
 ghost use Rattle.std.specs.Prelude.{◌≡◌, ◌+◌, ◌-◌, ◌*◌, ◌≤◌, ◌<◌, length};
 ghost use Rattle.octets.specs.Parts.{part};
-ghost use Rattle.answers.specs.declared.Answer.TheVariants.{Accepted};
+ghost use Rattle.answers.specs.Answer.{Accepted};
 ghost use Rattle.sff_format.specs.HeaderTest.{read_count};
 ghost use Rattle.sff_format.specs.FileTest.{file_test};
 ghost use Rattle.sff_format.specs.Places.{read_place};
@@ -14,7 +14,7 @@ ghost use Rattle.correction_format.specs.Correct.{correct_outcome, correct_buffe
 ghost use Rattle.correction_format.specs.ListRun.{turns, run_list};
 ghost use Rattle.sff_corrector.specs.Carried.{outcome_of, StartIn, known_at, AcceptedFront, AcceptedAfter};
 
-use answers::Answer;
+use answers::{Cause, Refusal};
 use correction_format::ListOutcome;
 use sff_edit::inner::apply;
 use sff_file::file_test;
@@ -154,7 +154,7 @@ fn run(
     }
     ListOutcome {
         count,
-        answer: Answer::Accepted,
+        answer: Ok(()),
         length,
     }
 }
@@ -168,7 +168,7 @@ pub fn correct(buffer: &mut [u8], file_length: usize, record: &[u8]) -> Outcome
     let carried = carry_first(buffer, file_length, record);
     match carried {
         Carried::Out(length, _, _) => Outcome {
-            answer: Answer::Accepted,
+            answer: Ok(()),
             length,
         },
         Carried::Stopped(number, at) => Outcome {
@@ -187,7 +187,7 @@ pub fn correct_list(buffer: &mut [u8], file_length: usize, list: &[u8]) -> ListO
     if list.len() % 96 != 0 {
         return ListOutcome {
             count: 0,
-            answer: Answer::Refused(20, 0),
+            answer: Err(Refusal(Cause::Record, 0)),
             length: file_length,
         };
     }
@@ -195,7 +195,7 @@ pub fn correct_list(buffer: &mut [u8], file_length: usize, list: &[u8]) -> ListO
     if n == 0 {
         return ListOutcome {
             count: 0,
-            answer: Answer::Accepted,
+            answer: Ok(()),
             length: file_length,
         };
     }

@@ -17,7 +17,7 @@ use Rattle.octets.proofs.Digits.{length-bytes_of}
 use Rattle.octets.proofs.Inserts.{drop-rest}
 use Rattle.octets.proofs.Stands.{stands_read, units_stand, length_units, length_fields_lem, length-filled, field_filled, number-take}
 use Rattle.octets.proofs.FilledFront.{filled_front_front, filled_front_put, splice_filled_front}
-use Rattle.answers.specs.declared.Answer.TheVariants.{Accepted}
+use Rattle.answers.specs.Answer.{Accepted}
 use Rattle.sff_format.specs.Model.{Read, no_index, read_fields, layout_read_header, layout_read_data, layout_read, layout_reads, layout, with_reads}
 use Rattle.sff_format.specs.HeaderTest.{read_count, flows, flow_characters, header_test}
 use Rattle.sff_format.specs.ReadTest.{section_length, name_length, read_test, read_end}

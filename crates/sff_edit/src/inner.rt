@@ -1,7 +1,7 @@
 // For the corrector, which has judged the record and found its read: hence each `requires`.
 ghost use Rattle.std.specs.Prelude.{◌≡◌, ◌+◌, ◌-◌, ◌≤◌, length, take};
 ghost use Rattle.octets.specs.Parts.{up8};
-ghost use Rattle.answers.specs.declared.Answer.TheVariants.{Accepted};
+ghost use Rattle.answers.specs.Answer.{Accepted};
 ghost use Rattle.sff_format.specs.HeaderTest.{read_count};
 ghost use Rattle.sff_format.specs.ReadTest.{section_length};
 ghost use Rattle.sff_format.specs.FileTest.{file_test};

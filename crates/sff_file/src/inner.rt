@@ -1,11 +1,12 @@
 // What a boundary asks, and the way from one to the next, for this crate and those above it, which have tested the
 // header and know that the place lies in the file: hence each `requires`.
 ghost use Rattle.std.specs.Prelude.{◌≡◌, ◌+◌, ◌≤◌, length};
+ghost use Rattle.answers.specs.Answer.{answer_of};
 ghost use Rattle.sff_format.specs.FileTest.{index_due, pass_test, end_test};
 ghost use Rattle.sff_format.specs.Walk.{first_boundary, read_start, next_boundary, boundary_at};
 ghost use Rattle.sff_header.specs.Header.{header_of, FieldsFit};
 
-use answers::Answer;
+use answers::{Cause, Refusal};
 use sff_format::Boundary;
 use sff_header::Header;
 use sff_header::inner::{index_size, is_declared};
@@ -20,30 +21,30 @@ pub fn index_due(header: Header, place: usize, passed: bool) -> bool
 }
 
 // An index at `place` that is cut short (1).
-pub fn pass_test(file: &[u8], header: Header, place: usize) -> Answer
+pub fn pass_test(file: &[u8], header: Header, place: usize) -> Result<(), Refusal>
     requires header_value { header ≡ header_of file.now }
     requires fields_fit { FieldsFit header }
     requires place_in_bounds { place ≤ length file.now }
-    ensures { result ≡ pass_test file.now place }
+    ensures { answer_of result ≡ pass_test file.now place }
 {
     if file.len() < place + index_size(header.index_length) {
-        return Answer::Refused(1, place);
+        return Err(Refusal(Cause::CutShort, place));
     }
-    Answer::Accepted
+    Ok(())
 }
 
 // The end of the file: an index whose place was never met (13), bytes left over (12).
-pub fn end_test(file: &[u8], header: Header, place: usize, passed: bool) -> Answer
+pub fn end_test(file: &[u8], header: Header, place: usize, passed: bool) -> Result<(), Refusal>
     requires { header ≡ header_of file.now }
-    ensures { result ≡ end_test file.now place passed }
+    ensures { answer_of result ≡ end_test file.now place passed }
 {
     if is_declared(header.index_offset, header.index_length) & !passed {
-        return Answer::Refused(13, 8);
+        return Err(Refusal(Cause::IndexNotMet, 8));
     }
     if place < file.len() {
-        return Answer::Refused(12, place);
+        return Err(Refusal(Cause::LeftOver, place));
     }
-    Answer::Accepted
+    Ok(())
 }
 
 // Where a walk over the reads starts.

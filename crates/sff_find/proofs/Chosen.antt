@@ -3,7 +3,7 @@ use Prim.Native.Nat.{ℕ, ◌≤◌, ◌<◌}
 use mathlib.Core.Path.{◌≡◌}
 use mathlib.Core.List.{List}
 use lib.ListN.{length}
-use Rattle.answers.specs.declared.Answer.TheVariants.{Accepted, Refused}
+use Rattle.answers.specs.Answer.{Accepted, Refused}
 use Rattle.sff_format.specs.declared.Boundary.{Boundary}
 use Rattle.sff_format.specs.FileTest.{file_test}
 use Rattle.sff_format.specs.Walk.{Walk, first_boundary}

@@ -1,6 +1,6 @@
 // Where a read starts and what it says, for the crates above, which have tested the file: hence each `requires`.
 ghost use Rattle.std.specs.Prelude.{◌≡◌, ◌+◌, ◌≤◌, ◌<◌, length};
-ghost use Rattle.answers.specs.declared.Answer.TheVariants.{Accepted};
+ghost use Rattle.answers.specs.Answer.{Accepted};
 ghost use Rattle.sff_format.specs.HeaderTest.{read_count, flows};
 ghost use Rattle.sff_format.specs.FileTest.{file_test};
 ghost use Rattle.sff_format.specs.Places.{read_place};

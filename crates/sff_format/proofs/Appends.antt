@@ -10,9 +10,8 @@ use Rattle.octets.specs.Parts.{put_at, part}
 use Rattle.octets.specs.Numbers.{bytes_of, Bytes}
 use Rattle.octets.proofs.Lists.{length_put, put_next, put_front_lem}
 use Rattle.octets.proofs.Digits.{length-bytes_of}
-use Rattle.answers.specs.declared.Answer.TheVariants.{Accepted}
+use Rattle.answers.specs.Answer.{Accepted, accepted_or}
 use Rattle.sff_format.specs.Rules.{declared}
-use Rattle.answers.specs.Answer.{accepted_or}
 use Rattle.sff_format.specs.Model.{Read, no_index, layout_read, layout, with_reads}
 use Rattle.sff_format.specs.Valid.{Valid}
 use Rattle.sff_format.specs.HeaderTest.{index_offset, index_length, read_count, flow_characters, key_characters}

@@ -6,7 +6,7 @@ use mathlib.Core.List.{List, [], ◌∷◌}
 use native.Mathlib.Omega.{arith}
 use lib.ListN.{length}
 use Rattle.octets.proofs.Scan.{more_le}
-use Rattle.answers.specs.declared.Answer.TheVariants.{Accepted, Refused}
+use Rattle.answers.specs.Answer.{Accepted, Refused}
 use Rattle.answers.proofs.Answers.{first-ok, second-ok, both_ok, under_ok, ok_under, stopped-in, then_refused}
 use Rattle.sff_format.specs.Rules.{is_flow, base_matches, walked_count, matched_count}
 use Rattle.sff_format.specs.ReadTest.{bases_test}

@@ -6,8 +6,7 @@ use mathlib.Core.List.{List, [], ◌∷◌}
 use native.Mathlib.Omega.{arith}
 use lib.Dec.{eqb}
 use borrow.Author.Tests.{eqb-true, eq-eqb, ne_eqb}
-use Rattle.answers.specs.declared.Answer.TheVariants.{Accepted}
-use Rattle.answers.specs.Answer.{◌then◌}
+use Rattle.answers.specs.Answer.{Accepted, ◌then◌}
 use Rattle.sff_format.specs.Rules.{declared, index_size}
 use Rattle.sff_format.specs.HeaderTest.{index_offset, index_length, flows, flow_characters}
 use Rattle.sff_format.specs.ReadTest.{read_test, read_end}

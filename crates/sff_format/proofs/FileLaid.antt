@@ -12,8 +12,7 @@ use borrow.Author.Tests.{eqb-true, eqb-false}
 use Rattle.octets.specs.Parts.{part, insert_at}
 use Rattle.octets.specs.Numbers.{Bytes}
 use Rattle.octets.proofs.AllBytes.{bytes-part}
-use Rattle.answers.specs.declared.Answer.TheVariants.{Accepted}
-use Rattle.answers.specs.Answer.{◌then◌}
+use Rattle.answers.specs.Answer.{Accepted, ◌then◌}
 use Rattle.sff_format.specs.Model.{Read, no_index, layout_read, layout_reads, layout_header, layout_index, layout}
 use Rattle.sff_format.specs.Rules.{declared, index_size}
 use Rattle.sff_format.specs.HeaderTest.{index_offset, index_length, read_count, header_length, key_length, flows, flow_characters, header_test}

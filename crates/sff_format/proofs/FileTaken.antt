@@ -7,8 +7,7 @@ use native.Mathlib.Omega.{arith}
 use native.Mathlib.Nat.{zero-add}
 use lib.ListN.{length, take, drop, length-append, length-drop}
 use Rattle.octets.specs.Parts.{part, filled, insert_at}
-use Rattle.answers.specs.declared.Answer.TheVariants.{Accepted}
-use Rattle.answers.specs.Answer.{◌then◌}
+use Rattle.answers.specs.Answer.{Accepted, ◌then◌}
 use Rattle.sff_format.specs.Model.{Read, Index, File, layout_read, layout_reads, layout_header, layout_index, layout}
 use Rattle.sff_format.specs.Rules.{declared, index_size}
 use Rattle.sff_format.specs.HeaderTest.{index_offset, index_length, header_length, flows, flow_characters, header_test}

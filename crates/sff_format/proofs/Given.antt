@@ -10,7 +10,7 @@ use borrow.Author.Tests.{not-false, ltb-false, le-ltb, eqb-true, eq-eqb}
 use Rattle.octets.specs.Parts.{up8}
 use Rattle.octets.specs.Scans.{is_name_byte}
 use Rattle.octets.proofs.Every.{none_fails, every_passes}
-use Rattle.answers.specs.declared.Answer.TheVariants.{Accepted}
+use Rattle.answers.specs.Answer.{Accepted}
 use Rattle.sff_format.specs.Model.{Read}
 use Rattle.sff_format.specs.Valid.{ValidRead}
 use Rattle.sff_format.specs.ReadTest.{clip_test}

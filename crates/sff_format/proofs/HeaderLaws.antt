@@ -10,8 +10,7 @@ use Rattle.octets.specs.Parts.{part, up8}
 use Rattle.octets.specs.Numbers.{Bytes, number, fields}
 use Rattle.octets.specs.Scans.{is_flow_character, is_zero, Every}
 use Rattle.octets.proofs.Lists.{length_part}
-use Rattle.answers.specs.declared.Answer.TheVariants.{Accepted}
-use Rattle.answers.specs.Answer.{accepted_or}
+use Rattle.answers.specs.Answer.{Accepted, accepted_or}
 use Rattle.sff_format.specs.Model.{File, header_fields, layout_header}
 use Rattle.sff_format.specs.Rules.{bad_index}
 use Rattle.sff_format.specs.HeaderTest.{index_offset, index_length, read_count, header_length, key_length, flows, characters_end, flow_characters, key_characters, fixed_test, characters_test, header_test, file_flow_characters, file_key}

@@ -15,8 +15,7 @@ use Rattle.octets.specs.Numbers.{Bytes}
 use Rattle.octets.specs.Scans.{Every, is_flow_character, is_name_byte}
 use Rattle.octets.proofs.Lists.{get_d_part}
 use Rattle.octets.proofs.Every.{first_passes, every_at}
-use Rattle.answers.specs.declared.Answer.TheVariants.{Accepted, Refused}
-use Rattle.answers.specs.Answer.{when, Refusing}
+use Rattle.answers.specs.Answer.{Accepted, Refused, when, Refusing}
 use Rattle.answers.proofs.Answers.{or_left, or_right, or-either, and_both}
 use Rattle.answers.proofs.Numbered.{then-refusing, when-refusing, held_refusing}
 use Rattle.sff_format.specs.Rules.{declared, bad_index_length, bad_index, is_flow, walked_count, base_matches, matched_count}

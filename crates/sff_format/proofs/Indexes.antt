@@ -7,7 +7,7 @@ use native.Mathlib.Omega.{arith}
 use lib.ListN.{length}
 use Rattle.octets.specs.Parts.{part, filled}
 use Rattle.octets.proofs.Lists.{length_part}
-use Rattle.answers.specs.declared.Answer.TheVariants.{Accepted}
+use Rattle.answers.specs.Answer.{Accepted}
 use Rattle.sff_format.specs.Model.{Index, layout_index}
 use Rattle.sff_format.specs.Rules.{index_size}
 use Rattle.sff_format.specs.HeaderTest.{index_offset, index_length}

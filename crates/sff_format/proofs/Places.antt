@@ -14,8 +14,7 @@ use Rattle.octets.specs.Parts.{put_at}
 use Rattle.octets.specs.Numbers.{Bytes, bytes_of}
 use Rattle.octets.proofs.Lists.{length_part}
 use Rattle.octets.proofs.Inserts.{drop-rest}
-use Rattle.answers.specs.declared.Answer.TheVariants.{Accepted}
-use Rattle.answers.specs.Answer.{◌then◌}
+use Rattle.answers.specs.Answer.{Accepted, ◌then◌}
 use Rattle.sff_format.specs.Model.{Read, no_index, layout_read, layout_reads, layout_index, layout, with_reads}
 use Rattle.sff_format.specs.Rules.{declared, index_size}
 use Rattle.sff_format.specs.HeaderTest.{index_offset, index_length, read_count, header_length, flows, flow_characters, header_test}

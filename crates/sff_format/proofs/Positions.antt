@@ -10,9 +10,7 @@ use borrow.Author.Tests.{ltb-true, lt-ltb, le-ltb, eqb-false, eq-eqb, ne_eqb, no
 use Rattle.octets.specs.Parts.{part}
 use Rattle.octets.specs.Numbers.{Bytes, words_at}
 use Rattle.octets.proofs.Stands.{number_small}
-use Rattle.answers.specs.declared.Answer.{Answer}
-use Rattle.answers.specs.declared.Answer.TheVariants.{Accepted, Refused}
-use Rattle.answers.specs.Answer.{when, ◌then◌, accepted_or}
+use Rattle.answers.specs.Answer.{Answer, Accepted, Refused, when, ◌then◌, accepted_or}
 use Rattle.sff_format.specs.HeaderTest.{read_count, flows, flow_characters}
 use Rattle.sff_format.specs.ReadTest.{read_test}
 use Rattle.sff_format.specs.FileTest.{boundary_test, file_test}

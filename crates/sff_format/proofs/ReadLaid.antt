@@ -10,7 +10,7 @@ use Rattle.octets.specs.Numbers.{Bytes, number, fields, words, words_at}
 use Rattle.octets.specs.Scans.{is_zero, Every, is_name_byte}
 use Rattle.octets.proofs.Lists.{length_part}
 use Rattle.octets.proofs.AllBytes.{bytes-part}
-use Rattle.answers.specs.declared.Answer.TheVariants.{Accepted}
+use Rattle.answers.specs.Answer.{Accepted}
 use Rattle.sff_format.specs.Model.{Read, read_fields, layout_read_header, layout_read_data, layout_read}
 use Rattle.sff_format.specs.ReadTest.{section_length, name_length, base_count, quality_left, quality_right, adapter_left, adapter_right, name_test, clip_test, bases_test, data_test, read_test, read_end}
 use Rattle.sff_format.specs.Parse.{parse_read}

@@ -7,7 +7,7 @@ use native.Mathlib.Nat.{add-zero}
 use lib.ListN.{length, length-append}
 use Rattle.octets.specs.Parts.{part, up8}
 use Rattle.octets.specs.Scans.{is_zero, Every, is_name_byte}
-use Rattle.answers.specs.declared.Answer.TheVariants.{Accepted}
+use Rattle.answers.specs.Answer.{Accepted}
 use Rattle.octets.specs.Numbers.{number, fields, words, words_at}
 use Rattle.sff_format.specs.Model.{Read, read_fields, layout_read_header, layout_read_data, layout_read}
 use Rattle.sff_format.specs.Rules.{left_limit, right_limit}

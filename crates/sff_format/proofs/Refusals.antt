@@ -6,9 +6,7 @@ use mathlib.Core.Bool.{Bool, false}
 use mathlib.Core.List.{List, [], ◌∷◌}
 use lib.ListN.{length, take}
 use lib.Dec.{ltb}
-use Rattle.answers.specs.declared.Answer.{Answer}
-use Rattle.answers.specs.declared.Answer.TheVariants.{Accepted, Refused}
-use Rattle.answers.specs.Answer.{number_of, ◌then◌, among, Among}
+use Rattle.answers.specs.Answer.{Answer, Accepted, Refused, number_of, ◌then◌, among, Among}
 use Rattle.answers.proofs.Answers.{cond_keeps, either_keeps}
 use Rattle.answers.proofs.Numbered.{zero_accepted, then-refusing, when-refusing, shifted-refusing, zero_place_refusing, more_numbers}
 use Rattle.sff_format.specs.HeaderTest.{fixed_test, characters_test, header_test, read_count, header_length, flows, flow_characters}

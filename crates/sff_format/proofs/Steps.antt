@@ -9,10 +9,8 @@ use lib.ListN.{length}
 use lib.Dec.{ltb}
 use borrow.Author.Tests.{ltb-true, lt-ltb, le-ltb}
 use Rattle.octets.specs.Numbers.{Bytes}
-use Rattle.answers.specs.declared.Answer.{Answer}
-use Rattle.answers.specs.declared.Answer.TheVariants.{Accepted, Refused}
+use Rattle.answers.specs.Answer.{Answer, Accepted, Refused, when, ◌then◌}
 use Rattle.sff_format.specs.declared.ReadView.{ReadView}
-use Rattle.answers.specs.Answer.{when, ◌then◌}
 use Rattle.sff_format.specs.Rules.{index_size}
 use Rattle.sff_format.specs.HeaderTest.{index_length, header_test, header_length, flows, flow_characters, read_count}
 use Rattle.sff_format.specs.ReadTest.{read_test, read_end}

@@ -7,7 +7,7 @@ use lib.ListN.{length}
 use Rattle.octets.specs.Numbers.{Bytes, words, words_at}
 use Rattle.octets.proofs.Lists.{whole_in}
 use Rattle.octets.proofs.Stands.{stands_read, stands_self, length_units, length-units_at, units_stand, stand_units}
-use Rattle.answers.specs.declared.Answer.TheVariants.{Accepted}
+use Rattle.answers.specs.Answer.{Accepted}
 use Rattle.sff_format.specs.declared.ReadView.{ReadView}
 use Rattle.sff_format.specs.Model.{Read}
 use Rattle.sff_format.specs.ReadTest.{section_length, read_test}

@@ -12,10 +12,8 @@ use Rattle.octets.specs.Parts.{put_at, up8}
 use Rattle.octets.specs.Scans.{fails, is_flow_character}
 use Rattle.octets.proofs.Lists.{length_put, take-front}
 use Rattle.octets.proofs.Every.{none_fails, every_passes, every_left, every_right, every_both}
-use Rattle.answers.specs.declared.Answer.{Answer}
-use Rattle.answers.specs.declared.Answer.TheVariants.{Accepted, Refused}
+use Rattle.answers.specs.Answer.{Answer, Accepted, Refused, accepted_or}
 use Rattle.sff_format.specs.Rules.{declared}
-use Rattle.answers.specs.Answer.{accepted_or}
 use Rattle.sff_format.specs.Model.{Read, File, no_index, layout_read, layout}
 use Rattle.sff_format.specs.Valid.{Valid}
 use Rattle.sff_format.specs.HeaderTest.{index_offset, index_length, read_count, flow_characters}

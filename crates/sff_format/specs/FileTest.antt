@@ -1,8 +1,6 @@
 -- The whole-file test: the header, then what each boundary asks. Assumes nothing: these are definitions.
 use Rattle.std.specs.Prelude.{ℕ, zero, suc, ◌+◌, Bool, false, cond, not, ◌&&◌, ◌||◌, List, length, ltb, eqb}
-use Rattle.answers.specs.declared.Answer.{Answer}
-use Rattle.answers.specs.declared.Answer.TheVariants.{Accepted}
-use Rattle.answers.specs.Answer.{when, ◌then◌}
+use Rattle.answers.specs.Answer.{Answer, Accepted, when, ◌then◌}
 use Rattle.sff_format.specs.Rules.{declared, index_size}
 use Rattle.sff_format.specs.HeaderTest.{index_offset, index_length, read_count, header_length, flows, flow_characters, header_test}
 use Rattle.sff_format.specs.ReadTest.{read_test, read_end}

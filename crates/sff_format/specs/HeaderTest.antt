@@ -3,8 +3,7 @@ use Rattle.std.specs.Prelude.{ℕ, ◌+◌, not, List, [], length, ltb, eqb}
 use Rattle.octets.specs.Parts.{part, up8}
 use Rattle.octets.specs.Numbers.{number}
 use Rattle.octets.specs.Scans.{first_not, is_flow_character, is_zero}
-use Rattle.answers.specs.declared.Answer.{Answer}
-use Rattle.answers.specs.Answer.{when, stopped, accepted_or, ◌then◌}
+use Rattle.answers.specs.Answer.{Answer, when, stopped, accepted_or, ◌then◌}
 use Rattle.sff_format.specs.Rules.{bad_index}
 
 -- "index offset at 8 (8 bytes), index length at 16 (4), reads at 20 (4), header length at 24 (2), key length K at 26

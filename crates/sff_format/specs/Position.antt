@@ -1,9 +1,8 @@
 -- A read that is chosen by its position from 0: the test of the position, and its insert. Assumes nothing: these are
 -- definitions.
 use Rattle.std.specs.Prelude.{ℕ, not, List, [], ltb, eqb}
-use Rattle.answers.specs.declared.Answer.{Answer}
+use Rattle.answers.specs.Answer.{Answer, when, accepted_or, ◌then◌}
 use Rattle.sff_format.specs.declared.ReadView.{ReadView}
-use Rattle.answers.specs.Answer.{when, accepted_or, ◌then◌}
 use Rattle.sff_format.specs.HeaderTest.{read_count, flows}
 use Rattle.sff_format.specs.FileTest.{file_test}
 use Rattle.sff_format.specs.Places.{read_place}

@@ -3,8 +3,7 @@ use Rattle.std.specs.Prelude.{ℕ, ◌+◌, ◌*◌, not, List, length, ltb, eqb
 use Rattle.octets.specs.Parts.{part, up8}
 use Rattle.octets.specs.Numbers.{number}
 use Rattle.octets.specs.Scans.{first_not, is_name_byte, is_zero}
-use Rattle.answers.specs.declared.Answer.{Answer}
-use Rattle.answers.specs.Answer.{when, stopped, shifted, ◌then◌}
+use Rattle.answers.specs.Answer.{Answer, when, stopped, shifted, ◌then◌}
 use Rattle.sff_format.specs.Rules.{left_limit, right_limit, walked_count, matched_count}
 
 -- "its length (2), name length L (2), bases N (4), quality left, quality right, adapter left, adapter right (2 each, in

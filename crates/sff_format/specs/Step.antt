@@ -1,10 +1,8 @@
 -- "Reading on". Assumes nothing: these are definitions.
 use Rattle.std.specs.Prelude.{ℕ, zero, suc, ◌+◌, Bool, false, cond, List, [], ◌∷◌, map, length, ltb}
-use Rattle.answers.specs.declared.Answer.{Answer}
-use Rattle.answers.specs.declared.Answer.TheVariants.{Accepted, Refused}
+use Rattle.answers.specs.Answer.{Answer, Accepted, Refused, when, ◌then◌}
 use Rattle.sff_format.specs.declared.ReadView.{ReadView}
 use Rattle.sff_format.specs.Model.{Read}
-use Rattle.answers.specs.Answer.{when, ◌then◌}
 use Rattle.sff_format.specs.HeaderTest.{header_test, header_length, flows, flow_characters, read_count}
 use Rattle.sff_format.specs.ReadTest.{read_test, read_end}
 use Rattle.sff_format.specs.View.{view_at, view_read}

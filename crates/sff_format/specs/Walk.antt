@@ -1,6 +1,6 @@
 -- A walk over the reads of an accepted file, from boundary to boundary. Assumes nothing: these are definitions.
 use Rattle.std.specs.Prelude.{ℕ, zero, suc, ◌≤◌, ◌≡◌, false, ◌&&◌, List, length, ltb}
-use Rattle.answers.specs.declared.Answer.TheVariants.{Accepted}
+use Rattle.answers.specs.Answer.{Accepted}
 use Rattle.sff_format.specs.declared.Boundary.{Boundary}
 use Rattle.sff_format.specs.Rules.{declared}
 use Rattle.sff_format.specs.HeaderTest.{index_offset, index_length, read_count, header_length, flows}

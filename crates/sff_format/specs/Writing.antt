@@ -1,13 +1,12 @@
 -- "Writing": a new file, an append, and a file written by these. Assumes nothing: these are definitions.
-use Rattle.std.specs.Prelude.{ℕ, ◌+◌, ◌<◌, ◌≡◌, Bool, not, ◌||◌, List, [], ◌∷◌, length, take, ltb, eqb}
+use Rattle.std.specs.Prelude.{Result, Ok, Err, ℕ, ◌+◌, ◌<◌, ◌≡◌, Bool, not, ◌||◌, List, [], ◌∷◌, length, take, ltb, eqb}
 use Rattle.octets.specs.Parts.{put_at}
 use Rattle.octets.specs.Numbers.{Bytes, bytes_of, Words}
 use Rattle.octets.specs.Scans.{fails, is_flow_character, is_name_byte}
-use Rattle.answers.specs.declared.Answer.{Answer}
-use Rattle.answers.specs.declared.Answer.TheVariants.{Accepted}
-use Rattle.sff_format.specs.declared.Outcome.{Outcome}
+use Rattle.answers.specs.declared.Refusal.{Refusal}
+use Rattle.answers.specs.Causes.{number}
+use Rattle.answers.specs.Answer.{Answer, Accepted, Refused, when, zero_place, ◌then◌, accepted_or}
 use Rattle.sff_format.specs.declared.Clips.{Clips}
-use Rattle.answers.specs.Answer.{when, zero_place, ◌then◌, accepted_or}
 use Rattle.sff_format.specs.Rules.{declared}
 use Rattle.sff_format.specs.Model.{Read, File, no_index, layout_read, layout}
 use Rattle.sff_format.specs.HeaderTest.{index_offset, index_length, read_count, flow_characters}
@@ -15,6 +14,16 @@ use Rattle.sff_format.specs.ReadTest.{clip_test, bases_test}
 use Rattle.sff_format.specs.FileTest.{file_test}
 use Rattle.sff_format.specs.Parse.{parse}
 use Rattle.sff_format.specs.Places.{read_at}
+
+-- what a writer answers: its refusal or none, and the file's length afterwards
+pub record Outcome : Type 0 where
+  pub answer : Answer
+  pub length : ℕ
+
+-- what a writer's call says of a file of the length that was given: the length afterwards, or a refusal, which leaves it
+abbrev pub outcome_of : ℕ → Result ℕ Refusal → Outcome
+outcome_of given (Ok new) = record { answer = Accepted; length = new }
+outcome_of given (Err refusal) = record { answer = Refused (number refusal.0) refusal.1; length = given }
 
 -- "also answers the file's length afterwards (the length given if nothing is done; 0 for a refused new file)"
 abbrev pub outcome : Answer → ℕ → ℕ → Outcome

@@ -2,8 +2,6 @@
 
 #![tactic(auto)]
 
-use answers::Answer;
-
 // Bytes of a file, or entries of a list: the place of the first, and how many.
 #[derive(Clone, Copy)]
 pub struct Span {
@@ -40,11 +38,4 @@ pub struct Clips {
     pub quality_right: u16,
     pub adapter_left: u16,
     pub adapter_right: u16,
-}
-
-// What a writer answers: its refusal or none, and the file's length afterwards.
-#[derive(Clone, Copy)]
-pub struct Outcome {
-    pub answer: Answer,
-    pub length: usize,
 }

@@ -9,9 +9,7 @@ use Rattle.octets.specs.Parts.{up8}
 use Rattle.octets.specs.Numbers.{number}
 use Rattle.octets.specs.Scans.{first_not, is_flow_character, is_zero}
 use Rattle.octets.proofs.Digits.{number_one}
-use Rattle.answers.specs.declared.Answer.{Answer}
-use Rattle.answers.specs.declared.Answer.TheVariants.{Accepted}
-use Rattle.answers.specs.Answer.{when, stopped, ◌then◌}
+use Rattle.answers.specs.Answer.{Answer, Accepted, when, stopped, ◌then◌}
 use Rattle.answers.proofs.Answers.{second-ok, same_ok}
 use Rattle.answers.proofs.Chains.{differ, same}
 use Rattle.sff_format.specs.Rules.{bad_index}
@@ -50,9 +48,9 @@ module _ (h : Header) (b : List ℕ) (e : h ≡ header_of b) where
   flows_of = rw e
 
   -- what 5 asks, where the first tests accepted
-  pub length-good : {x : Answer} → x ≡ fixed_test b → x ≡ Accepted → h.length ≡ up8 (31 + h.flows + h.key_length)
+  pub length-good : Accepted ≡ fixed_test b → h.length ≡ up8 (31 + h.flows + h.key_length)
   unfolding fixed_test header_of
-  length-good f t = rw e (same_ok _ _ _ _ (second-ok _ _ (second-ok _ _ (second-ok _ _ (sym f ∙ t)))))
+  length-good f = rw e (same_ok _ _ _ _ (second-ok _ _ (second-ok _ _ (second-ok _ _ (sym f)))))
 
 -- a field of one byte, as the code reads it
 module _ (b : List ℕ) (at y : ℕ) (fits : at < length b) where

@@ -4,6 +4,7 @@
 #![tactic(auto)]
 
 ghost use Rattle.std.specs.Prelude.{◌≡◌, ◌+◌, ◌≤◌, length};
+ghost use Rattle.answers.specs.Answer.{answer_of};
 ghost use Rattle.octets.specs.Parts.{up8};
 ghost use Rattle.sff_format.specs.Rules.{bad_index_length, bad_index};
 ghost use Rattle.sff_format.specs.HeaderTest.{fixed_test, characters_test, header_test, file_flow_characters, file_key};
@@ -12,7 +13,7 @@ ghost use Rattle.sff_header.specs.Header.{header_of, FieldsFit};
 pub mod inner;
 
 use crate::inner::is_declared;
-use answers::Answer;
+use answers::{Cause, Refusal};
 use octets::inner::{first_not, get32, up8};
 use octets::{ByteTest, whole_part};
 
@@ -50,66 +51,63 @@ fn characters_end(header: Header) -> usize
 
 // The fields that are the same in every file, and the header length: magic (2), version (3), format code (4), length
 // (5).
-fn fixed_test(file: &[u8], header: Header) -> Answer
+fn fixed_test(file: &[u8], header: Header) -> Result<(), Refusal>
     requires in_bounds { 31 ≤ length file.now }
     requires header_value { header ≡ header_of file.now }
     requires fields_fit { FieldsFit header }
-    ensures { result ≡ fixed_test file.now }
+    ensures { answer_of result ≡ fixed_test file.now }
 {
     if get32(file, 0) != 0x2E736666 {
-        return Answer::Refused(2, 0);
+        return Err(Refusal(Cause::Magic, 0));
     }
     if get32(file, 4) != 1 {
-        return Answer::Refused(3, 4);
+        return Err(Refusal(Cause::Version, 4));
     }
     if file[30] != 1 {
-        return Answer::Refused(4, 30);
+        return Err(Refusal(Cause::FormatCode, 30));
     }
     if header.length != up8(characters_end(header)) {
-        return Answer::Refused(5, 24);
+        return Err(Refusal(Cause::SectionLength, 24));
     }
-    Answer::Accepted
+    Ok(())
 }
 
 // Behind the fields, and the index: flow and key characters (6), padding (7), index fields (8).
-fn characters_test(file: &[u8], header: Header) -> Answer
+fn characters_test(file: &[u8], header: Header) -> Result<(), Refusal>
     requires header_value { header ≡ header_of file.now }
     requires fields_fit { FieldsFit header }
     requires length_value { header.length ≡ up8 (31 + header.flows + header.key_length) }
     requires length_in_bounds { header.length ≤ length file.now }
-    ensures { result ≡ characters_test file.now }
+    ensures { answer_of result ≡ characters_test file.now }
 {
     let padding = characters_end(header);
     let end = header.length;
     let other = first_not(ByteTest::FlowCharacter, file, 31, padding);
     if other < padding {
-        return Answer::Refused(6, other);
+        return Err(Refusal(Cause::Character, other));
     }
     let other = first_not(ByteTest::Zero, file, padding, end);
     if other < end {
-        return Answer::Refused(7, other);
+        return Err(Refusal(Cause::Padding, other));
     }
     if bad_index(header.index_offset, header.index_length) {
-        return Answer::Refused(8, 8);
+        return Err(Refusal(Cause::IndexFields, 8));
     }
-    Answer::Accepted
+    Ok(())
 }
 
 // All of the header's tests, in their order, on any bytes: under 31 bytes (1), the fixed fields and the length (2, 3,
 // 4, 5), under its own length (1), characters, padding and index (6, 7, 8).
-pub fn header_test(file: &[u8]) -> Answer
-    ensures { result ≡ header_test file.now }
+pub fn header_test(file: &[u8]) -> Result<(), Refusal>
+    ensures { answer_of result ≡ header_test file.now }
 {
     if file.len() < 31 {
-        return Answer::Refused(1, 0);
+        return Err(Refusal(Cause::CutShort, 0));
     }
     let header = inner::header_fields(file);
-    let fixed = fixed_test(file, header);
-    let Answer::Accepted = fixed else {
-        return fixed;
-    };
+    fixed_test(file, header)?;
     if file.len() < header.length {
-        return Answer::Refused(1, 0);
+        return Err(Refusal(Cause::CutShort, 0));
     }
     characters_test(file, header)
 }
@@ -118,8 +116,7 @@ pub fn header_test(file: &[u8]) -> Answer
 pub fn flow_characters(file: &[u8]) -> &[u8]
     ensures { result.now ≡ file_flow_characters file.now }
 {
-    let answer = header_test(file);
-    let Answer::Accepted = answer else {
+    let Ok(()) = header_test(file) else {
         return &file[..0];
     };
     let header = inner::header_fields(file);
@@ -130,8 +127,7 @@ pub fn flow_characters(file: &[u8]) -> &[u8]
 pub fn key(file: &[u8]) -> &[u8]
     ensures { result.now ≡ file_key file.now }
 {
-    let answer = header_test(file);
-    let Answer::Accepted = answer else {
+    let Ok(()) = header_test(file) else {
         return &file[..0];
     };
     let header = inner::header_fields(file);

@@ -6,7 +6,6 @@
 ghost use Rattle.std.specs.Prelude.{◌≡◌};
 ghost use Rattle.sff_format.specs.Position.{file_insert, file_first, file_last};
 
-use answers::Answer;
 use sff_clips::{first_base, last_base};
 use sff_find::inner::view_of;
 use sff_find::position_test;
@@ -23,10 +22,9 @@ pub struct InsertEnds {
 pub fn insert(file: &[u8], position: usize) -> &[u8]
     ensures { result.now ≡ file_insert file.now position }
 {
-    let answer = position_test(file, position);
-    let Answer::Accepted = answer else {
+    if position_test(file, position).is_err() {
         return &file[..0];
-    };
+    }
     sff_view::insert(view_of(file, position), file)
 }
 
@@ -34,13 +32,12 @@ pub fn insert(file: &[u8], position: usize) -> &[u8]
 pub fn insert_ends(file: &[u8], position: usize) -> InsertEnds
     ensures { (result.first.0 ≡ file_first file.now position) × (result.last.0 ≡ file_last file.now position) }
 {
-    let test = position_test(file, position);
-    let Answer::Accepted = test else {
+    if position_test(file, position).is_err() {
         return InsertEnds {
             first: BasePosition(1),
             last: BasePosition(0),
         };
-    };
+    }
     let view = view_of(file, position);
     InsertEnds {
         first: first_base(view),

@@ -8,9 +8,7 @@ use lib.ListN.{length}
 use Rattle.octets.specs.Parts.{part, up8}
 use Rattle.octets.specs.Scans.{first_not, is_zero}
 use Rattle.octets.proofs.Lists.{length_part}
-use Rattle.answers.specs.declared.Answer.{Answer}
-use Rattle.answers.specs.declared.Answer.TheVariants.{Accepted, Refused}
-use Rattle.answers.specs.Answer.{when, stopped, shifted, ◌then◌}
+use Rattle.answers.specs.Answer.{Answer, Accepted, Refused, when, stopped, shifted, ◌then◌}
 use Rattle.sff_format.specs.ReadTest.{section_length, name_length, name_test, clip_test, bases_test, data_test, read_test}
 use Rattle.answers.proofs.Answers.{first-ok, second-ok, under_ok}
 use Rattle.sff_format.proofs.Bases.{bases_in}

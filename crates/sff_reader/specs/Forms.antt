@@ -1,9 +1,10 @@
 -- What the code's forms say in the definitions' words. Assumes nothing: these are definitions.
-use Rattle.sff_format.specs.Step.{State, found, stop}
-use Rattle.sff_format.specs.Step as format
+use Rattle.std.specs.Prelude.{Result, Ok, Err}
+use Rattle.answers.specs.declared.Refusal.{Refusal}
+use Rattle.answers.specs.Causes.{number}
+use Rattle.sff_format.specs.Step.{State, Step, found, stop}
 use Rattle.sff_reader.specs.declared.Reader.{Reader}
-use Rattle.sff_reader.specs.declared.Step.{Step}
-use Rattle.sff_reader.specs.declared.Step.TheVariants.{Found, Stopped}
+use Rattle.sff_reader.specs.declared.Found.{Found}
 
 abbrev pub state_of : Reader → State
 state_of reader = record {
@@ -12,6 +13,10 @@ state_of reader = record {
   passed_index = reader.passed_index;
 }
 
-abbrev pub step_of : Step → format.Step
-step_of (Found view next) = found view (state_of next)
-step_of (Stopped number place unmoved) = stop number place (state_of unmoved)
+abbrev pub found_of : Found → Step
+found_of read = found read.view (state_of read.next)
+
+-- what a step from a reader says: a refusal leaves it as it was
+abbrev pub step_of : Reader → Result Found Refusal → Step
+step_of reader (Ok read) = found_of read
+step_of reader (Err refusal) = stop (number refusal.0) refusal.1 (state_of reader)

@@ -3,14 +3,14 @@
 #![tactic(auto)]
 
 ghost use Rattle.std.specs.Prelude.{◌≡◌, ◌+◌, ◌≤◌, ◌<◌, length};
-ghost use Rattle.answers.specs.declared.Answer.TheVariants.{Accepted};
+ghost use Rattle.answers.specs.Answer.{Accepted, answer_of};
 ghost use Rattle.sff_format.specs.HeaderTest.{header_test};
 ghost use Rattle.sff_format.specs.FileTest.{index_test};
 ghost use Rattle.sff_format.specs.Step.{fresh, fresh_place, step, step_test, read_or_none};
 ghost use Rattle.sff_header.specs.Header.{header_of, FieldsFit};
-ghost use Rattle.sff_reader.specs.Forms.{state_of, step_of};
+ghost use Rattle.sff_reader.specs.Forms.{state_of, found_of, step_of};
 
-use answers::Answer;
+use answers::{Cause, Refusal};
 use sff_file::inner::{end_test, index_due, next_boundary, pass_test, past_index};
 use sff_format::{Boundary, ReadView};
 use sff_header::inner::header_fields;
@@ -25,69 +25,66 @@ pub struct Reader {
     pub passed_index: bool,
 }
 
-// The read found and the reader after it; or document 01's number and place, and the reader unmoved.
+// The read that a step found, and the reader after it.
 #[derive(Clone, Copy)]
-pub enum Step {
-    Found(ReadView, Reader),
-    Stopped(u8, usize, Reader),
+pub struct Found {
+    pub view: ReadView,
+    pub next: Reader,
 }
 
 // Past an index: the read's tests; with no read left those of the file's end (13, 12), or else 33.
-fn read_or_none(file: &[u8], header: Header, place: usize, reads: usize, passed: bool) -> Answer
+fn read_or_none(
+    file: &[u8],
+    header: Header,
+    place: usize,
+    reads: usize,
+    passed: bool,
+) -> Result<(), Refusal>
     requires file_value { header_test file.now ≡ Accepted }
     requires header_value { header ≡ header_of file.now }
     requires fields_fit { FieldsFit header }
     requires place_in_bounds { place ≤ length file.now }
-    ensures { result ≡ read_or_none file.now place reads passed }
+    ensures { answer_of result ≡ read_or_none file.now place reads passed }
 {
     if reads < header.reads {
         return read_test(file, place, header.flows);
     }
-    let end = end_test(file, header, place, passed);
-    let Answer::Accepted = end else {
-        return end;
-    };
-    Answer::Refused(33, place)
+    end_test(file, header, place, passed)?;
+    Err(Refusal(Cause::NoReadLeft, place))
 }
 
 // An index that is due and cut short (1).
-fn index_test(file: &[u8], header: Header, place: usize, passed: bool) -> Answer
+fn index_test(file: &[u8], header: Header, place: usize, passed: bool) -> Result<(), Refusal>
     requires header_value { header ≡ header_of file.now }
     requires fields_fit { FieldsFit header }
     requires place_in_bounds { place ≤ length file.now }
-    ensures { result ≡ index_test file.now place passed }
+    ensures { answer_of result ≡ index_test file.now place passed }
 {
     if index_due(header, place, passed) {
         return pass_test(file, header, place);
     }
-    Answer::Accepted
+    Ok(())
 }
 
-fn step_test(file: &[u8], reader: Reader) -> Answer
-    ensures { result ≡ step_test file.now (state_of reader) }
+fn step_test(file: &[u8], reader: Reader) -> Result<(), Refusal>
+    ensures { answer_of result ≡ step_test file.now (state_of reader) }
 {
-    let head = header_test(file);
-    let Answer::Accepted = head else {
-        return head;
-    };
+    header_test(file)?;
     let place = reader.place;
     let passed = reader.passed_index;
     if file.len() < place {
-        return Answer::Refused(1, place);
+        return Err(Refusal(Cause::CutShort, place));
     }
     let header = header_fields(file);
-    let index = index_test(file, header, place, passed);
-    let Answer::Accepted = index else {
-        return index;
-    };
+    index_test(file, header, place, passed)?;
     let here = past_index(file, header, Boundary { place, passed });
     read_or_none(file, header, here.place, reader.passed_reads, here.passed)
 }
 
 // The read that a step found, and the reader after it.
-fn found(file: &[u8], reader: Reader) -> Step
+fn found(file: &[u8], reader: Reader) -> Found
     requires { step_test file.now (state_of reader) ≡ Accepted }
-    ensures { step_of result ≡ step file.now (state_of reader) }
+    ensures { found_of result ≡ step file.now (state_of reader) }
 {
     let header = header_fields(file);
     let flows = header.flows;
@@ -102,7 +99,10 @@ fn found(file: &[u8], reader: Reader) -> Step
         passed_reads: reader.passed_reads + 1,
         passed_index: after.passed,
     };
-    Step::Found(read_view(file, start.place, flows), next)
+    Found {
+        view: read_view(file, start.place, flows),
+        next,
+    }
 }
 
 impl Reader {
@@ -117,23 +117,20 @@ impl Reader {
         }
     }
 
-    // For every state: the read and the next reader, or a refusal and this one.
-    pub fn step(self, file: &[u8]) -> Step
-        ensures { step_of result ≡ step file.now (state_of self) }
+    // For every state: the read and the next reader, or a refusal, and this reader is as it was.
+    pub fn step(self, file: &[u8]) -> Result<Found, Refusal>
+        ensures { step_of self result ≡ step file.now (state_of self) }
     {
-        if let Answer::Refused(number, place) = step_test(file, self) {
-            return Step::Stopped(number, place, self);
-        }
-        found(file, self)
+        step_test(file, self)?;
+        Ok(found(file, self))
     }
 }
 
 fn fresh_place(file: &[u8]) -> usize
     ensures { result ≡ fresh_place (header_test file.now) file.now }
 {
-    let head = header_test(file);
-    let Answer::Accepted = head else {
+    if header_test(file).is_err() {
         return 0;
-    };
+    }
     header_fields(file).length
 }

@@ -11,9 +11,7 @@ use Rattle.octets.specs.Parts.{part, same, up8}
 use Rattle.octets.specs.Numbers.{Bytes}
 use Rattle.octets.proofs.Lists.{length_part}
 use Rattle.octets.proofs.Same.{same-lengths}
-use Rattle.answers.specs.declared.Answer.{Answer}
-use Rattle.answers.specs.declared.Answer.TheVariants.{Accepted, Refused}
-use Rattle.answers.specs.Answer.{accepted_or}
+use Rattle.answers.specs.Answer.{Answer, Accepted, Refused, accepted_or}
 use Rattle.answers.proofs.Answers.{cond_keeps}
 use Rattle.answers.specs.Rows.{Row, first_row}
 use Rattle.answers.proofs.Rows.{row-holds, row-not}

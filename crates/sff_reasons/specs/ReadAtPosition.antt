@@ -1,7 +1,7 @@
 -- What the tests are given. Assumes nothing: these are definitions.
 use Rattle.std.specs.Prelude.{ℕ, ◌<◌, ◌≡◌, List}
 use Rattle.octets.specs.Numbers.{Bytes}
-use Rattle.answers.specs.declared.Answer.TheVariants.{Accepted}
+use Rattle.answers.specs.Answer.{Accepted}
 use Rattle.sff_format.specs.HeaderTest.{read_count}
 use Rattle.sff_format.specs.FileTest.{file_test}
 use Rattle.correction_format.specs.declared.Fields.{Fields}

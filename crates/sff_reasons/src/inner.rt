@@ -3,7 +3,7 @@
 // `record` is there for its promise: it says what the fields ask for.
 ghost use Rattle.std.specs.Prelude.{◌≡◌, ℕ, ◌+◌, ◌≤◌, ◌<◌, [], length};
 ghost use Rattle.octets.specs.Parts.{part, same};
-ghost use Rattle.answers.specs.declared.Answer.TheVariants.{Accepted};
+ghost use Rattle.answers.specs.Answer.{Accepted, answer_of};
 ghost use Rattle.sff_format.specs.HeaderTest.{read_count};
 ghost use Rattle.sff_format.specs.ReadTest.{name_length};
 ghost use Rattle.sff_format.specs.FileTest.{file_test};
@@ -14,7 +14,7 @@ ghost use Rattle.correction_format.specs.Fields.{FieldsOf, asked};
 ghost use Rattle.correction_format.specs.Reasons.{name_among, position_above, other_name, index_present, clip_above, name_taken, no_room, reasons};
 ghost use Rattle.sff_reasons.specs.ReadAtPosition.{ReadAtPosition};
 
-use answers::Answer;
+use answers::{Cause, Refusal};
 use correction_format::Fields;
 use octets::inner::{get16, get32, same_part, up8};
 use sff_clips::inner::clip_test;
@@ -94,18 +94,15 @@ pub fn clip_above(file: &[u8], place: usize, fields: Fields, record: &[u8]) -> b
     if fields.kind != 1 {
         return false;
     }
-    let clips = clip_test(
+    clip_test(
         0,
         get32(file, place + 4),
         BasePosition(fields.quality_left),
         BasePosition(fields.quality_right),
         BasePosition(fields.adapter_left),
         BasePosition(fields.adapter_right),
-    );
-    let Answer::Accepted = clips else {
-        return true;
-    };
-    false
+    )
+    .is_err()
 }
 
 // 24: a rename to a name that another read bears.
@@ -133,29 +130,35 @@ pub fn no_room(file: &[u8], room: usize, place: usize, fields: Fields, record: &
 }
 
 // The first reason from 22 on against a record whose read stands at `place`, in a buffer of `room` bytes.
-pub fn reason(file: &[u8], room: usize, place: usize, fields: Fields, record: &[u8]) -> Answer
+pub fn reason(
+    file: &[u8],
+    room: usize,
+    place: usize,
+    fields: Fields,
+    record: &[u8],
+) -> Result<(), Refusal>
     requires file_value { file_test file.now ≡ Accepted }
     requires record_value { record_test «record».now ≡ Accepted }
     requires fields_of { FieldsOf fields «record».now }
     requires position_bound { fields.position < read_count file.now }
     requires place_value { place ≡ read_place file.now fields.position }
     requires file_len_bound { length file.now ≤ room }
-    ensures { result ≡ reasons room (asked fields «record».now) (parse file.now) }
+    ensures { answer_of result ≡ reasons room (asked fields «record».now) (parse file.now) }
 {
     if other_name(file, place, fields, record) {
-        return Answer::Refused(22, 0);
+        return Err(Refusal(Cause::OtherName, 0));
     }
     if index_present(file, fields, record) {
-        return Answer::Refused(25, 0);
+        return Err(Refusal(Cause::IndexPresent, 0));
     }
     if clip_above(file, place, fields, record) {
-        return Answer::Refused(23, 0);
+        return Err(Refusal(Cause::NewClip, 0));
     }
     if name_taken(file, fields, record) {
-        return Answer::Refused(24, 0);
+        return Err(Refusal(Cause::NameTaken, 0));
     }
     if no_room(file, room, place, fields, record) {
-        return Answer::Refused(26, 0);
+        return Err(Refusal(Cause::NoRoom, 0));
     }
-    Answer::Accepted
+    Ok(())
 }

@@ -4,7 +4,7 @@ use mathlib.Core.Path.{◌≡◌}
 use mathlib.Core.List.{List}
 use native.Mathlib.Omega.{arith}
 use lib.ListN.{length}
-use Rattle.answers.specs.declared.Answer.TheVariants.{Accepted}
+use Rattle.answers.specs.Answer.{Accepted}
 use Rattle.correction_format.specs.declared.Fields.{Fields}
 use Rattle.correction_format.specs.Record.{record_test}
 use Rattle.correction_format.specs.Fields.{FieldsOf}

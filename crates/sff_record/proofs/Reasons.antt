@@ -7,9 +7,7 @@ use native.Mathlib.Omega.{arith}
 use native.Mathlib.Nat.{add-sub_cancel_left}
 use Rattle.octets.specs.Parts.{part}
 use Rattle.octets.specs.Scans.{fails, is_zero}
-use Rattle.answers.specs.declared.Answer.{Answer}
-use Rattle.answers.specs.declared.Answer.TheVariants.{Accepted, Refused}
-use Rattle.answers.specs.Answer.{when, ◌then◌}
+use Rattle.answers.specs.Answer.{Answer, Accepted, Refused, when, ◌then◌}
 use Rattle.answers.proofs.Chains.{refuses, accepts}
 use Rattle.correction_format.specs.Record.{name_field_test, unused_test}
 

@@ -1,7 +1,7 @@
 // For the corrector, which has tested the record: hence each `requires`.
 ghost use Rattle.std.specs.Prelude.{◌≡◌, length};
 ghost use Rattle.octets.specs.Parts.{part};
-ghost use Rattle.answers.specs.declared.Answer.TheVariants.{Accepted};
+ghost use Rattle.answers.specs.Answer.{Accepted};
 ghost use Rattle.correction_format.specs.Record.{position, old_name, new_name, record_test};
 ghost use Rattle.correction_format.specs.Fields.{fields_at, FieldsOf};
 

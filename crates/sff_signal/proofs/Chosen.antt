@@ -6,9 +6,8 @@ use native.Mathlib.Omega.{arith}
 use lib.ListN.{length}
 use lib.Ieee.{binary64, of_bits, of_fields, odd}
 use Rattle.octets.specs.Numbers.{Bytes, words_at}
-use Rattle.answers.specs.declared.Answer.TheVariants.{Accepted, Refused}
+use Rattle.answers.specs.Answer.{Accepted, Refused, accepted_or}
 use Rattle.sff_format.specs.declared.ReadView.{ReadView}
-use Rattle.answers.specs.Answer.{accepted_or}
 use Rattle.sff_format.specs.HeaderTest.{flows}
 use Rattle.sff_format.specs.Parse.{parse}
 use Rattle.sff_format.specs.Places.{read_at}

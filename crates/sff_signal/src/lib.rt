@@ -3,13 +3,14 @@
 #![tactic(auto)]
 
 ghost use Rattle.std.specs.Prelude.{◌≡◌};
+ghost use Rattle.answers.specs.Answer.{answer_of};
 ghost use Rattle.sff_format.specs.Position.{signal_test};
 ghost use Rattle.sff_signal.specs.Signal.{file_signal};
 
 pub mod inner;
 
 use crate::inner::values_summary;
-use answers::Answer;
+use answers::{Cause, Refusal};
 use sff_find::inner::view_of;
 use sff_find::position_test;
 use sff_header::inner::header_fields;
@@ -23,31 +24,27 @@ pub struct Summary {
 }
 
 // The file's own refusal, 21 where it has no read at the position, 32 where a read has no flows.
-pub fn signal_test(file: &[u8], position: usize) -> Answer
-    ensures { result ≡ signal_test file.now position }
+pub fn signal_test(file: &[u8], position: usize) -> Result<(), Refusal>
+    ensures { answer_of result ≡ signal_test file.now position }
 {
-    let found = position_test(file, position);
-    let Answer::Accepted = found else {
-        return found;
-    };
+    position_test(file, position)?;
     if header_fields(file).flows == 0 {
-        return Answer::Refused(32, 0);
+        return Err(Refusal(Cause::NoFlows, 0));
     }
-    Answer::Accepted
+    Ok(())
 }
 
 // The summary; refused, three times 0.0.
 pub fn signal(file: &[u8], position: usize) -> Summary
     ensures { result ≡ file_signal file.now position }
 {
-    let test = signal_test(file, position);
-    let Answer::Accepted = test else {
+    if signal_test(file, position).is_err() {
         return Summary {
             strongest: 0.0,
             weakest: 0.0,
             mean: 0.0,
         };
-    };
+    }
     let values = view_of(file, position).values;
     values_summary(file, values.at, values.size / 2)
 }

@@ -4,10 +4,10 @@
 #![tactic(auto)]
 
 ghost use Rattle.std.specs.Prelude.{◌≡◌};
-ghost use Rattle.answers.specs.Answer.{when, ◌then◌};
+ghost use Rattle.answers.specs.Answer.{when, ◌then◌, answer_of};
 ghost use Rattle.sff_format.specs.View.{bytes_in, insert_in, outside, insert_outside, view_test};
 
-use answers::Answer;
+use answers::{Cause, Refusal};
 use octets::whole_part;
 use sff_clips::inner::insert_span;
 use sff_clips::{first_base, last_base};
@@ -62,50 +62,39 @@ pub fn insert(view: ReadView, file: &[u8]) -> &[u8]
 }
 
 // 1 at the start of a stretch that does not lie in the file whole. Its end is never added up: the sum could wrap.
-fn part_test(file: &[u8], x: Span) -> Answer
-    ensures { result ≡ when (outside file.now x) 1 x.at }
+fn part_test(file: &[u8], x: Span) -> Result<(), Refusal>
+    ensures { answer_of result ≡ when (outside file.now x) 1 x.at }
 {
     if x.at > file.len() {
-        return Answer::Refused(1, x.at);
+        return Err(Refusal(Cause::CutShort, x.at));
     }
     if x.size > file.len() - x.at {
-        return Answer::Refused(1, x.at);
+        return Err(Refusal(Cause::CutShort, x.at));
     }
-    Answer::Accepted
+    Ok(())
 }
 
 // 1 at the start of the bases where the insert is not empty and does not lie within them.
-fn insert_test(view: ReadView) -> Answer
-    ensures { result ≡ when (insert_outside view) 1 view.bases.at }
+fn insert_test(view: ReadView) -> Result<(), Refusal>
+    ensures { answer_of result ≡ when (insert_outside view) 1 view.bases.at }
 {
     let first = first_base(view);
     let last = last_base(view);
     if (first.0 <= last.0) & (last.0 > view.bases.size) {
-        return Answer::Refused(1, view.bases.at);
+        return Err(Refusal(Cause::CutShort, view.bases.at));
     }
-    Answer::Accepted
-}
-
-// The first of two tests that refuses.
-fn first_of(a: Answer, b: Answer) -> Answer
-    ensures { result ≡ (a then b) }
-{
-    let Answer::Accepted = a else {
-        return a;
-    };
-    b
+    Ok(())
 }
 
 // Whether all that the view names can be handed out: the companion of the calls above, and of `first_base` and
 // `last_base` of sff_clips.
-pub fn view_test(view: ReadView, file: &[u8]) -> Answer
-    ensures { result ≡ view_test file.now view }
+pub fn view_test(view: ReadView, file: &[u8]) -> Result<(), Refusal>
+    ensures { answer_of result ≡ view_test file.now view }
 {
-    let name = part_test(file, view.name);
-    let values = part_test(file, view.values);
-    let increments = part_test(file, view.increments);
-    let bases = part_test(file, view.bases);
-    let qualities = part_test(file, view.qualities);
-    let data = first_of(bases, first_of(qualities, insert_test(view)));
-    first_of(name, first_of(values, first_of(increments, data)))
+    part_test(file, view.name)?;
+    part_test(file, view.values)?;
+    part_test(file, view.increments)?;
+    part_test(file, view.bases)?;
+    part_test(file, view.qualities)?;
+    insert_test(view)
 }

@@ -9,7 +9,7 @@ use borrow.Author.Rules.{rules}
 use borrow.Author.Tests.{leb-true}
 use lib.Dec.{leb}
 use lib.ListN.{length, drop, get_or}
-use Rattle.answers.specs.declared.Answer.TheVariants.{Accepted, Refused}
+use Rattle.answers.specs.Answer.{Accepted, Refused}
 use Rattle.answers.proofs.Chains.{stops, stops_last, reaches, reaches_last}
 use Rattle.sff_format.specs.Rules.{is_flow, base_matches, walked_count, matched_count}
 use Rattle.sff_format.specs.ReadTest.{bases_test}

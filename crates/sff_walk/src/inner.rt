@@ -1,11 +1,12 @@
 // The flow walk and the bases, for the crates above: the lists are as long as each other and no longer than a read's,
 // hence each `requires`.
 ghost use Rattle.std.specs.Prelude.{◌≡◌, ◌+◌, ◌-◌, ◌≤◌, ◌<◌, length, drop};
+ghost use Rattle.answers.specs.Answer.{answer_of};
 ghost use Rattle.sff_format.specs.Rules.{base_matches, walked_count};
 ghost use Rattle.sff_format.specs.ReadTest.{bases_test};
 
 use crate::{BasePosition, FlowPosition};
-use answers::Answer;
+use answers::{Cause, Refusal};
 
 // The place among the increments of the first one, from base position `base` on, that breaks the walk after flow
 // position `flow`; or their end.
@@ -44,9 +45,9 @@ fn base_matches(characters: &[u8], flow: FlowPosition, base: u8) -> bool
 // The flow walk (10) and, in the same pass, the bases (11), to the place of the first base that breaks the walk or is
 // not its flow's character, or the end. Any 10 comes before any 11, so behind a wrong base the rest of the walk is
 // tested first. Places count from the first increment, as though the bases came after them.
-pub fn bases_test(characters: &[u8], increments: &[u8], bases: &[u8]) -> Answer
+pub fn bases_test(characters: &[u8], increments: &[u8], bases: &[u8]) -> Result<(), Refusal>
     requires { (length characters.now < 65536) × (length increments.now ≡ length bases.now) × (length bases.now < 4294967296) }
-    ensures { result ≡ bases_test characters.now increments.now bases.now }
+    ensures { answer_of result ≡ bases_test characters.now increments.now bases.now }
 {
     let flows = characters.len();
     let count = increments.len();
@@ -67,14 +68,14 @@ pub fn bases_test(characters: &[u8], increments: &[u8], bases: &[u8]) -> Answer
         base = base.next();
     };
     if stop == count {
-        return Answer::Accepted;
+        return Ok(());
     }
     if !flow.within(flows) {
-        return Answer::Refused(10, stop);
+        return Err(Refusal(Cause::FlowWalk, stop));
     }
     let walk = walk_stop(increments, base.next(), flow, flows);
     if walk < count {
-        return Answer::Refused(10, walk);
+        return Err(Refusal(Cause::FlowWalk, walk));
     }
-    Answer::Refused(11, count + stop)
+    Err(Refusal(Cause::Base, count + stop))
 }

@@ -13,9 +13,7 @@ use Rattle.octets.specs.Numbers.{Bytes, number, bytes_of}
 use Rattle.octets.proofs.Lists.{part-take}
 use Rattle.octets.proofs.AllBytes.{bytes_take}
 use Rattle.octets.proofs.Stands.{number_small}
-use Rattle.answers.specs.declared.Answer.{Answer}
-use Rattle.answers.specs.declared.Answer.TheVariants.{Accepted, Refused}
-use Rattle.answers.specs.Answer.{when, zero_place, ◌then◌, accepted_or}
+use Rattle.answers.specs.Answer.{Answer, Accepted, Refused, when, zero_place, ◌then◌, accepted_or}
 use Rattle.sff_format.specs.Model.{Read, layout_read, layout}
 use Rattle.sff_format.specs.Rules.{declared}
 use Rattle.sff_format.specs.HeaderTest.{read_count, flows, flow_characters}

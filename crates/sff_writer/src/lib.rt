@@ -4,29 +4,29 @@
 #![tactic(auto)]
 
 ghost use Rattle.std.specs.Prelude.{◌≡◌, ◌<◌, length};
-ghost use Rattle.answers.specs.Answer.{zero_place};
+ghost use Rattle.answers.specs.Answer.{zero_place, answer_of};
 ghost use Rattle.sff_format.specs.ReadTest.{clip_test};
-ghost use Rattle.sff_format.specs.Writing.{new_test, new_outcome, new_buffer, read_of, bad_counts, given_test, open_test, append_test, AppendLeaves};
+ghost use Rattle.sff_format.specs.Writing.{new_test, outcome_of, new_outcome, new_buffer, read_of, bad_counts, given_test, open_test, append_test, AppendLeaves};
 
-use answers::Answer;
+use answers::{Cause, Refusal};
 use buffers::inner::put32;
 use octets::inner::get32;
 use octets::{ByteTest, fails};
 use sff_clips::inner::clip_test;
 use sff_file::file_test;
-use sff_format::{Clips, Outcome};
+use sff_format::Clips;
 use sff_header::inner::{header_fields, is_declared};
 use sff_sections::inner::{header_size, put_new_header, put_read, read_size};
 use sff_walk::BasePosition;
 use sff_walk::inner::bases_test;
 
 // A refusal of the writer's own input, at place 0.
-fn zero_place(answer: Answer) -> Answer
-    ensures { result ≡ zero_place answer }
+fn zero_place(answer: Result<(), Refusal>) -> Result<(), Refusal>
+    ensures { answer_of result ≡ zero_place (answer_of answer) }
 {
     match answer {
-        Answer::Accepted => Answer::Accepted,
-        Answer::Refused(number, _) => Answer::Refused(number, 0),
+        Ok(()) => Ok(()),
+        Err(Refusal(cause, _)) => Err(Refusal(cause, 0)),
     }
 }
 
@@ -46,9 +46,9 @@ fn bad_counts(
 }
 
 // The clips: one above its limit (9), at place 0 as they are the caller's.
-fn clips_test(clips: Clips, bases: usize) -> Answer
+fn clips_test(clips: Clips, bases: usize) -> Result<(), Refusal>
     requires { bases < 4294967296 }
-    ensures { result ≡ zero_place (clip_test 0 bases clips.quality_left clips.quality_right clips.adapter_left clips.adapter_right) }
+    ensures { answer_of result ≡ zero_place (clip_test 0 bases clips.quality_left clips.quality_right clips.adapter_left clips.adapter_right) }
 {
     zero_place(clip_test(
         0,
@@ -70,76 +70,66 @@ fn given_test(
     increments: &[u8],
     bases: &[u8],
     qualities: &[u8],
-) -> Answer
+) -> Result<(), Refusal>
     requires { length characters.now < 65536 }
-    ensures { result ≡ given_test characters.now (read_of name.now clips values.now increments.now bases.now qualities.now) }
+    ensures { answer_of result ≡ given_test characters.now (read_of name.now clips values.now increments.now bases.now qualities.now) }
 {
     if bad_counts(characters.len(), values, increments, bases, qualities) {
-        return Answer::Refused(30, 0);
+        return Err(Refusal(Cause::Counts, 0));
     }
     if name.len() > 65512 {
-        return Answer::Refused(5, 0);
+        return Err(Refusal(Cause::SectionLength, 0));
     }
     if fails(ByteTest::NameByte, name) {
-        return Answer::Refused(6, 0);
+        return Err(Refusal(Cause::Character, 0));
     }
-    let clipped = clips_test(clips, bases.len());
-    let Answer::Accepted = clipped else {
-        return clipped;
-    };
+    clips_test(clips, bases.len())?;
     zero_place(bases_test(characters, increments, bases))
 }
 
 // A new file's reasons to refuse: too many characters (5), a character (6), no room (26).
-fn new_test(room: usize, flows: &[u8], key: &[u8]) -> Answer
-    ensures { result ≡ new_test room flows.now key.now }
+fn new_test(room: usize, flows: &[u8], key: &[u8]) -> Result<(), Refusal>
+    ensures { answer_of result ≡ new_test room flows.now key.now }
 {
     if flows.len() > 65497 {
-        return Answer::Refused(5, 0);
+        return Err(Refusal(Cause::SectionLength, 0));
     }
     if key.len() > 65497 - flows.len() {
-        return Answer::Refused(5, 0);
+        return Err(Refusal(Cause::SectionLength, 0));
     }
     if fails(ByteTest::FlowCharacter, flows) | fails(ByteTest::FlowCharacter, key) {
-        return Answer::Refused(6, 0);
+        return Err(Refusal(Cause::Character, 0));
     }
     if room < header_size(flows.len(), key.len()) {
-        return Answer::Refused(26, 0);
+        return Err(Refusal(Cause::NoRoom, 0));
     }
-    Answer::Accepted
+    Ok(())
 }
 
-// Puts a new file, with no reads and no index, at the front of the buffer. Answers its length; refused, 0, with the
-// buffer as it was.
-pub fn new_file(buffer: &mut [u8], flows: &[u8], key: &[u8]) -> Outcome
-    ensures value { result ≡ new_outcome buffer.old flows.now key.now }
+// Puts a new file, with no reads and no index, at the front of the buffer. Answers its length; refused, the buffer is
+// as it was.
+pub fn new_file(buffer: &mut [u8], flows: &[u8], key: &[u8]) -> Result<usize, Refusal>
+    ensures value { outcome_of 0 result ≡ new_outcome buffer.old flows.now key.now }
     ensures buffer_after { buffer.new ≡ new_buffer buffer.old flows.now key.now }
 {
-    let answer = new_test(buffer.len(), flows, key);
-    let Answer::Accepted = answer else {
-        return Outcome { answer, length: 0 };
-    };
+    new_test(buffer.len(), flows, key)?;
     put_new_header(buffer, flows, key);
-    let length = header_size(flows.len(), key.len());
-    Outcome { answer, length }
+    Ok(header_size(flows.len(), key.len()))
 }
 
 // The reasons that a file gives against any read: its own refusal, an index (25), as many reads as can be counted (31).
-fn open_test(file: &[u8]) -> Answer
-    ensures { result ≡ open_test file.now }
+fn open_test(file: &[u8]) -> Result<(), Refusal>
+    ensures { answer_of result ≡ open_test file.now }
 {
-    let tested = file_test(file);
-    let Answer::Accepted = tested else {
-        return tested;
-    };
+    file_test(file)?;
     let header = header_fields(file);
     if is_declared(header.index_offset, header.index_length) {
-        return Answer::Refused(25, 0);
+        return Err(Refusal(Cause::IndexPresent, 0));
     }
     if header.reads == 4294967295 {
-        return Answer::Refused(31, 0);
+        return Err(Refusal(Cause::ReadCount, 0));
     }
-    Answer::Accepted
+    Ok(())
 }
 
 // An append's reasons to refuse: a length above the buffer (14), those of the file, those of the read, no room (26).
@@ -152,20 +142,17 @@ fn append_test(
     increments: &[u8],
     bases: &[u8],
     qualities: &[u8],
-) -> Answer
-    ensures { result ≡ append_test buffer.now file_length
+) -> Result<(), Refusal>
+    ensures { answer_of result ≡ append_test buffer.now file_length
         (read_of name.now clips values.now increments.now bases.now qualities.now) }
 {
     if file_length > buffer.len() {
-        return Answer::Refused(14, 0);
+        return Err(Refusal(Cause::FileLength, 0));
     }
     let file = &buffer[..file_length];
-    let open = open_test(file);
-    let Answer::Accepted = open else {
-        return open;
-    };
+    open_test(file)?;
     let flows = header_fields(file).flows;
-    let given = given_test(
+    given_test(
         &file[31..31 + flows],
         name,
         clips,
@@ -173,18 +160,15 @@ fn append_test(
         increments,
         bases,
         qualities,
-    );
-    let Answer::Accepted = given else {
-        return given;
-    };
+    )?;
     if buffer.len() - file_length < read_size(name.len(), values.len(), bases.len()) {
-        return Answer::Refused(26, 0);
+        return Err(Refusal(Cause::NoRoom, 0));
     }
-    Answer::Accepted
+    Ok(())
 }
 
 // Puts a read behind the file that fills the first `file_length` bytes of the buffer, and counts it. Answers the file's
-// length afterwards; refused, the length that was given, with the buffer as it was.
+// length afterwards; refused, file and buffer are as they were.
 pub fn append(
     buffer: &mut [u8],
     file_length: usize,
@@ -194,12 +178,12 @@ pub fn append(
     increments: &[u8],
     bases: &[u8],
     qualities: &[u8],
-) -> Outcome
+) -> Result<usize, Refusal>
     ensures { AppendLeaves buffer.old file_length
         (read_of name.now clips values.now increments.now bases.now qualities.now)
-        result buffer.new }
+        (outcome_of file_length result) buffer.new }
 {
-    let answer = append_test(
+    append_test(
         buffer,
         file_length,
         name,
@@ -208,13 +192,7 @@ pub fn append(
         increments,
         bases,
         qualities,
-    );
-    let Answer::Accepted = answer else {
-        return Outcome {
-            answer,
-            length: file_length,
-        };
-    };
+    )?;
     let reads = get32(buffer, 20);
     put_read(
         buffer,
@@ -227,9 +205,5 @@ pub fn append(
         qualities,
     );
     put32(buffer, 20, reads + 1);
-    let size = read_size(name.len(), values.len(), bases.len());
-    Outcome {
-        answer,
-        length: file_length + size,
-    }
+    Ok(file_length + read_size(name.len(), values.len(), bases.len()))
 }

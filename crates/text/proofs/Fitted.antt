@@ -10,11 +10,10 @@ use lib.ListN.{length, take, length-append}
 use lib.Seq.{length-take-le}
 use Rattle.octets.specs.Parts.{put_at}
 use Rattle.octets.proofs.Lists.{length_put}
-use Rattle.answers.specs.declared.Answer.TheVariants.{Accepted, Refused}
-use Rattle.answers.specs.Answer.{number_of, when, accepted_or, among, Among}
+use Rattle.answers.specs.Answer.{Accepted, Refused, number_of, when, accepted_or, among, Among}
 use Rattle.answers.proofs.Answers.{refused_or, refused-not}
 use Rattle.answers.proofs.Numbered.{when-refusing}
-use Rattle.text.specs.declared.Written.{Written}
+use Rattle.text.specs.Writing.{Written}
 use Rattle.text.specs.Writing.{fitted, written, text_numbers}
 use Rattle.text.proofs.Writing.{Wrote, wrote_none, room_both, two_all}
 

@@ -1,9 +1,9 @@
 -- A word of text, the room that a piece of text takes, and a text that is measured. Assumes nothing: these are
 -- definitions.
-use Rattle.std.specs.Prelude.{ℕ, ◌≡◌, ◌+◌, ◌≤◌, cond, List, [], ◌∷◌, length, take, eqb, ltb}
-use Rattle.answers.specs.declared.Answer.{Answer}
-use Rattle.answers.specs.Answer.{when, accepted_or}
-use Rattle.text.specs.declared.Written.{Written}
+use Rattle.std.specs.Prelude.{Result, Ok, Err, ℕ, ◌≡◌, ◌+◌, ◌≤◌, cond, List, [], ◌∷◌, length, take, eqb, ltb}
+use Rattle.answers.specs.declared.Refusal.{Refusal}
+use Rattle.answers.specs.Causes.{number}
+use Rattle.answers.specs.Answer.{Answer, Accepted, Refused, when, accepted_or}
 
 -- 'An empty name, key or insert is "-"'
 unfoldable pub or_dash : List ℕ → List ℕ
@@ -25,6 +25,16 @@ tested answer xs = record { answer = answer; text = accepted_or answer xs [] }
 -- the text if a buffer of that length holds it, else nothing and 26
 unfoldable pub fitted : ℕ → List ℕ → Fitted
 fitted room xs = tested (when (ltb room (length xs)) 26 0) xs
+
+-- what a call that puts a text answers: no room (26) or no refusal, and the text's length
+pub record Written : Type 0 where
+  pub answer : Answer
+  pub length : ℕ
+
+-- the text's length, or a refusal, which puts nothing
+abbrev pub written_of : Result ℕ Refusal → Written
+written_of (Ok put) = record { answer = Accepted; length = put }
+written_of (Err refusal) = record { answer = Refused (number refusal.0) refusal.1; length = 0 }
 
 -- what such a call answers
 abbrev pub written : Fitted → Written

@@ -7,11 +7,11 @@ use borrow.Author.Tests.{lt-ltb, le-ltb}
 use lib.ListN.{length, take, replicate, length-append}
 use lib.Seq.{length-take-le}
 use Rattle.octets.specs.Parts.{filled}
-use Rattle.answers.specs.declared.Answer.TheVariants.{Accepted, Refused}
-use Rattle.filter_format.specs.declared.Filtered.{Filtered}
+use Rattle.answers.specs.Answer.{Accepted, Refused}
+use Rattle.filter_format.specs.Undo.{Filtered}
 use Rattle.filter_format.specs.Undo.{Result, filtered, first_after, second_after, undo}
 use Rattle.filter_undo.proofs.Buffers.{held_filled}
-use Rattle.text.specs.declared.Written.{Written}
+use Rattle.text.specs.Writing.{Written}
 use Rattle.text.specs.Writing.{fitted, written}
 use Rattle.text.proofs.Fitted.{fits, Put, fitted_short}
 use Rattle.lines.specs.Lines.{refusal_line, too_long}

@@ -1,10 +1,9 @@
 -- What `unfilter` prints of a block: its data, or else as the lister prints it. Assumes nothing: these are definitions.
 use Rattle.std.specs.Prelude.{ℕ, ◌≡◌, cond, List, length, ltb}
 use Rattle.octets.specs.Parts.{filled}
-use Rattle.answers.specs.declared.Answer.{Answer}
-use Rattle.answers.specs.declared.Answer.TheVariants.{Accepted, Refused}
+use Rattle.answers.specs.Answer.{Answer, Accepted, Refused}
 use Rattle.filter_format.specs.Undo.{Result, room_of, second_after, undo}
-use Rattle.text.specs.declared.Written.{Written}
+use Rattle.text.specs.Writing.{Written}
 use Rattle.text.specs.Writing.{Fitted, fitted, written}
 use Rattle.lines.specs.Lines.{refusal_line, too_long}
 

@@ -9,7 +9,6 @@ ghost use Rattle.text.specs.Writing.{IsPrefixLen, written};
 ghost use Rattle.lines.specs.Lines.{too_long};
 ghost use Rattle.unfilter_text.specs.Unfiltering.{text_of, printed_by, TextHeld};
 
-use answers::Answer;
 use buffers::inner::clear_behind;
 use filter_undo::undo;
 use lines::inner::{write_refusal, write_too_long};
@@ -24,7 +23,7 @@ fn put_undone(block: &[u8], first: &mut [u8], second: &mut [u8]) -> Written
     let answer = result.answer;
     let Answer::Refused(number, place) = answer else {
         return Written {
-            answer: Answer::Accepted,
+            answer: Ok(()),
             length: result.made,
         };
     };

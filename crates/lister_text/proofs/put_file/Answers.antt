@@ -3,7 +3,7 @@
 use Rattle.std.proofs.Common.{◌≡◌, List, ℕ, ◌+◌, ◌++◌, sym, ◌∙◌}
 use borrow.Author.Tests.{ltb-true}
 use Rattle.octets.specs.Parts.{whole_part}
-use Rattle.answers.specs.declared.Answer.TheVariants.{Accepted}
+use Rattle.answers.specs.Answer.{Accepted}
 use Rattle.sff_format.specs.FileTest.{file_test}
 use Rattle.sff_format.specs.Parse.{parse}
 use Rattle.sff_header.specs.declared.Header.{Header}

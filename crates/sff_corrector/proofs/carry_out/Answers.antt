@@ -4,7 +4,7 @@ use mathlib.Core.Path.{◌≡◌, sym, ap, ◌∙◌}
 use Rattle.octets.specs.Numbers.{Bytes}
 use Rattle.octets.proofs.AllBytes.{bytes_of_lem}
 use Rattle.std.proofs.Common.{rules}
-use Rattle.answers.specs.declared.Answer.TheVariants.{Accepted}
+use Rattle.answers.specs.Answer.{Accepted}
 use Rattle.correction_format.specs.declared.Fields.{Fields}
 use Rattle.correction_format.specs.Correct.{correct_test}
 use Rattle.correction_format.proofs.Records.{record_96}

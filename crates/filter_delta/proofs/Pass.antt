@@ -1,12 +1,12 @@
 -- A pass along the units of a slice, in place: what is made, and what is to come, are the goal. One turn for every
 -- scan. Assumes nothing.
-use Rattle.std.proofs.Common.{◌≡◌, ℕ, zero, suc, ◌+◌, ◌-◌, ◌*◌, ◌/◌, ◌%◌, ◌<◌, ◌≤◌, List, ◌++◌, length, take, sym, refl, ap, ◌∙◌, append_assoc, append-nil, arith, take_all}
+use Rattle.std.proofs.Common.{◌≡◌, ℕ, zero, suc, ◌+◌, ◌-◌, ◌*◌, ◌/◌, ◌%◌, ◌<◌, ◌≤◌, List, ◌++◌, length, take, sym, refl, ◌∙◌, append_assoc, append-nil, arith, take_all}
 use Rattle.std.proofs.Math.Nat.{mul-le-mul_left, zero-mul, sub-zero}
 use Rattle.octets.specs.Parts.{put_at}
 use Rattle.octets.specs.Numbers.{number, bytes_of, unit_bytes, units_at}
 use Rattle.octets.proofs.Lists.{length_put, take_put, part-after}
 use Rattle.octets.proofs.Digits.{length-bytes_of}
-use Rattle.filter_format.specs.Units.{range, units_of}
+use Rattle.filter_format.specs.Units.{range}
 use Rattle.filter_format.specs.Delta.{scan, difference, sum, latest, undeltas, deltas, undelta_bytes, delta_bytes}
 use Rattle.filter_format.proofs.Wholes.{units_in}
 

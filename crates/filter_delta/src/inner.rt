@@ -33,14 +33,15 @@ fn delta_pass<U: Unit>(bytes: &mut [u8])
     }
 }
 
-// Puts the data at `at`, with `level` levels undone.
+// Puts the data at `at`, with `level` levels undone. This and `put_delta` stay two: one function that takes the pass
+// needs a contract for it that is longer than the two bodies.
 pub fn put_undelta<U: Unit>(out: &mut [u8], at: usize, source: &[u8], level: usize)
     requires { (length source.now % U.WIDTH ≡ 0) × (at + length source.now ≤ length out.old) }
     ensures { out.new ≡ put_at at (undelta_bytes U.WIDTH level source.now) out.old }
 {
     let data = &mut out[at..at + source.len()];
     data.copy_from_slice(source);
-    for _ in 0..level {
+    'undo: for _ in 0..level {
         undelta_pass::<U>(data);
     }
 }
@@ -52,7 +53,7 @@ pub fn put_delta<U: Unit>(out: &mut [u8], at: usize, source: &[u8], level: usize
 {
     let data = &mut out[at..at + source.len()];
     data.copy_from_slice(source);
-    for _ in 0..level {
+    'make: for _ in 0..level {
         delta_pass::<U>(data);
     }
 }

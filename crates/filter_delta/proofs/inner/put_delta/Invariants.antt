@@ -3,5 +3,5 @@ use Rattle.filter_format.specs.Delta.{delta_bytes}
 use Rattle.filter_delta.proofs.Levels.{Levels}
 use Rattle.filter_delta.proofs.inner.put_delta.Given as goal
 
-abbrev pub invariant-loop : goal.invariant-loop
-invariant-loop g l = let w = g.U.Unit.WIDTH in Levels w (delta_bytes w) l.level l.counter l.source l.data
+abbrev pub invariant-make : goal.invariant-make
+invariant-make g l = let w = g.U.Unit.WIDTH in Levels w (delta_bytes w) l.level l.counter l.source l.data

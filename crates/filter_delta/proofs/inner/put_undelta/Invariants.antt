@@ -3,5 +3,5 @@ use Rattle.filter_format.specs.Delta.{undelta_bytes}
 use Rattle.filter_delta.proofs.Levels.{Levels}
 use Rattle.filter_delta.proofs.inner.put_undelta.Given as goal
 
-abbrev pub invariant-loop : goal.invariant-loop
-invariant-loop g l = let w = g.U.Unit.WIDTH in Levels w (undelta_bytes w) l.level l.counter l.source l.data
+abbrev pub invariant-undo : goal.invariant-undo
+invariant-undo g l = let w = g.U.Unit.WIDTH in Levels w (undelta_bytes w) l.level l.counter l.source l.data

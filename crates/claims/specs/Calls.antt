@@ -73,8 +73,7 @@ pub data Call : Type 0 where
   signal : List ℕ → ℕ → Call
   -- `sff_writer::new_file(buffer, flows, key)`
   new_file : List ℕ → List ℕ → List ℕ → Call
-  -- `sff_writer::append(buffer, file_length, name, clips, values, increments, bases, qualities)`: the read is one value
-  -- here
+  -- `sff_writer::append(buffer, file_length, read)`: here the read's own lists, and not slices of them
   append : List ℕ → ℕ → Read → Call
   -- `sff_record::record_test(record)`
   record_test_call : List ℕ → Call

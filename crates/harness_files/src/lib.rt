@@ -17,6 +17,7 @@ use sff_format::{Clips, ReadView, Span};
 use sff_header::{flow_characters, header_test, key};
 use sff_insert::{insert, insert_ends};
 use sff_reader::{Reader, Step};
+use sff_sections::NewRead;
 use sff_signal::{signal, signal_test};
 use sff_view::view_test;
 use sff_writer::{append, new_file};
@@ -310,16 +311,15 @@ pub fn append_out(
         values.now increments.now bases.now qualities.now
         result place.new length_after.new buffer.new }
 {
-    let outcome = append(
-        buffer,
-        file_length as usize,
+    let read = NewRead {
         name,
-        clips_from(clips),
+        clips: clips_from(clips),
         values,
         increments,
         bases,
         qualities,
-    );
+    };
+    let outcome = append(buffer, file_length as usize, &read);
     let answer = outcome.answer;
     *place = place_of(answer);
     *length_after = outcome.length as u64;

@@ -1,100 +1,109 @@
-// What a boundary asks, and the way from one to the next, for this crate and those above it, which have tested the
-// header and know that the place lies in the file: hence each `requires`.
+// What a boundary asks, and the way from one to the next, for this crate and those above it, which know that the place
+// lies in the file: hence each `requires`.
 ghost use Rattle.std.specs.Prelude.{◌≡◌, ◌+◌, ◌≤◌, length};
 ghost use Rattle.answers.specs.Answer.{answer_of};
-ghost use Rattle.sff_format.specs.FileTest.{index_due, pass_test, end_test};
+ghost use Rattle.sff_format.specs.HeaderTest.{flows};
+ghost use Rattle.sff_format.specs.FileTest.{index_here, pass_test, index_test, end_test};
+ghost use Rattle.sff_format.specs.View.{view_at};
 ghost use Rattle.sff_format.specs.Walk.{first_boundary, read_start, next_boundary, boundary_at};
-ghost use Rattle.sff_header.specs.Header.{header_of, FieldsFit};
 
 use answers::{Cause, Refusal};
-use sff_format::Boundary;
-use sff_header::Header;
-use sff_header::inner::{index_size, is_declared};
-use sff_read::inner::read_end;
+use sff_format::{Boundary, ReadView};
+use sff_header::HeadedFile;
+use sff_read::inner::{read_end, read_view};
 
-// Whether an index is declared at the boundary `place` and not yet passed.
-pub fn index_due(header: Header, place: usize, passed: bool) -> bool
-    ensures { result ≡ index_due header.index_offset header.index_length place passed }
+// Whether an index is declared at a boundary and not yet passed.
+#[tactic(auto, unfolding(sff_format::specs::FileTest::index_due))]
+fn index_due(file: &HeadedFile, at: Boundary) -> bool
+    ensures { result ≡ index_here file.now at.place at.passed }
 {
-    let declared = is_declared(header.index_offset, header.index_length);
-    !passed & (declared & (place == header.index_offset))
+    !at.passed & (file.has_index() & (at.place == file.index_offset()))
 }
 
 // An index at `place` that is cut short (1).
-pub fn pass_test(file: &[u8], header: Header, place: usize) -> Result<(), Refusal>
-    requires header_value { header ≡ header_of file.now }
-    requires fields_fit { FieldsFit header }
-    requires place_in_bounds { place ≤ length file.now }
+fn pass_test(file: &HeadedFile, place: usize) -> Result<(), Refusal>
+    requires { place ≤ length file.now }
     ensures { answer_of result ≡ pass_test file.now place }
 {
-    if file.len() < place + index_size(header.index_length) {
+    if file.bytes().len() < place + file.index_size() {
         return Err(Refusal(Cause::CutShort, place));
     }
     Ok(())
 }
 
-// The end of the file: an index whose place was never met (13), bytes left over (12).
-pub fn end_test(file: &[u8], header: Header, place: usize, passed: bool) -> Result<(), Refusal>
-    requires { header ≡ header_of file.now }
-    ensures { answer_of result ≡ end_test file.now place passed }
+// An index that is due at a boundary and cut short (1).
+pub fn index_test(file: &HeadedFile, at: Boundary) -> Result<(), Refusal>
+    requires { at.place ≤ length file.now }
+    ensures { answer_of result ≡ index_test file.now at.place at.passed }
 {
-    if is_declared(header.index_offset, header.index_length) & !passed {
+    if index_due(file, at) {
+        return pass_test(file, at.place);
+    }
+    Ok(())
+}
+
+// The end of the file: an index whose place was never met (13), bytes left over (12).
+pub fn end_test(file: &HeadedFile, at: Boundary) -> Result<(), Refusal>
+    ensures { answer_of result ≡ end_test file.now at.place at.passed }
+{
+    if file.has_index() & !at.passed {
         return Err(Refusal(Cause::IndexNotMet, 8));
     }
-    if place < file.len() {
-        return Err(Refusal(Cause::LeftOver, place));
+    if at.place < file.bytes().len() {
+        return Err(Refusal(Cause::LeftOver, at.place));
     }
     Ok(())
 }
 
 // Where a walk over the reads starts.
-pub fn first_boundary(file: &[u8], header: Header) -> Boundary
-    requires { header ≡ header_of file.now }
+pub fn first_boundary(file: &HeadedFile) -> Boundary
     ensures { result ≡ first_boundary file.now }
 {
     Boundary {
-        place: header.length,
+        place: file.length(),
         passed: false,
     }
 }
 
 // Where the read after a boundary starts: past an index that is due there.
-pub fn past_index(file: &[u8], header: Header, at: Boundary) -> Boundary
-    requires header_value { header ≡ header_of file.now }
-    requires fields_fit { FieldsFit header }
-    requires place_in_bounds { at.place ≤ length file.now }
+pub fn past_index(file: &HeadedFile, at: Boundary) -> Boundary
+    requires { at.place ≤ length file.now }
     ensures { result ≡ read_start file.now at }
 {
-    if index_due(header, at.place, at.passed) {
-        return Boundary {
-            place: at.place + index_size(header.index_length),
-            passed: true,
-        };
+    if !index_due(file, at) {
+        return at;
     }
-    at
+    Boundary {
+        place: at.place + file.index_size(),
+        passed: true,
+    }
 }
 
 // The boundary after the read that starts at one.
-pub fn next_boundary(file: &[u8], header: Header, start: Boundary) -> Boundary
-    requires header_value { header ≡ header_of file.now }
-    requires fields_fit { FieldsFit header }
-    requires place_in_bounds { start.place + 16 ≤ length file.now }
+pub fn next_boundary(file: &HeadedFile, start: Boundary) -> Boundary
+    requires { start.place + 16 ≤ length file.now }
     ensures { result ≡ next_boundary file.now start }
 {
     Boundary {
-        place: read_end(file, start.place, header.flows),
+        place: read_end(file.bytes(), start.place, file.flows()),
         passed: start.passed,
     }
 }
 
+// What the read at a place says.
+pub fn view_at(file: &HeadedFile, place: usize) -> ReadView
+    requires { place + 16 ≤ length file.now }
+    ensures { result ≡ view_at (flows file.now) file.now place }
+{
+    read_view(file.bytes(), place, file.flows())
+}
+
 // The boundary at the start of a read whose place is known.
-pub fn boundary_at(file: &[u8], header: Header, place: usize) -> Boundary
-    requires { header ≡ header_of file.now }
+pub fn boundary_at(file: &HeadedFile, place: usize) -> Boundary
     ensures { result ≡ boundary_at file.now place }
 {
-    let declared = is_declared(header.index_offset, header.index_length);
     Boundary {
         place,
-        passed: declared & (header.index_offset < place),
+        passed: file.has_index() & (file.index_offset() < place),
     }
 }

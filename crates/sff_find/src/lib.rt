@@ -10,14 +10,14 @@ pub mod inner;
 
 use answers::{Cause, Refusal};
 use sff_file::file_test;
-use sff_header::inner::header_fields;
+use sff_header::HeadedFile;
 
 // The file's own refusal, then 21 where it has no read at the position.
 pub fn position_test(file: &[u8], position: usize) -> Result<(), Refusal>
     ensures { answer_of result ≡ position_test file.now position }
 {
     file_test(file)?;
-    if position >= header_fields(file).reads {
+    if position >= HeadedFile::new(file).reads() {
         return Err(Refusal(Cause::Position, 0));
     }
     Ok(())

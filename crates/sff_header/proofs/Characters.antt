@@ -1,5 +1,5 @@
--- The flow and key characters that are handed out lie within an accepted header, by its fields as the code has them;
--- there are none of a refused one. Assumes nothing.
+-- The flow and key characters that are handed out lie within an accepted header; where it is refused there are none.
+-- Assumes nothing.
 use Prim.Native.Nat.{ℕ, ◌+◌, ◌≤◌}
 use mathlib.Core.Path.{◌≡◌, sym, ◌∙◌}
 use mathlib.Core.List.{List, []}
@@ -7,40 +7,32 @@ use native.Mathlib.Omega.{arith}
 use lib.ListN.{length}
 use Rattle.octets.specs.Parts.{whole_part}
 use Rattle.octets.proofs.Lists.{whole_in}
-use Rattle.answers.specs.Answer.{Answer, Accepted, Refused, accepted_or}
+use Rattle.answers.specs.Answer.{Accepted, Refused, accepted_or}
 use Rattle.sff_format.specs.HeaderTest.{key_length, flows, header_test, file_flow_characters, file_key}
 use Rattle.sff_format.proofs.HeaderLaws.{header_fits, header_sized, flow_characters_given, key_given}
-use Rattle.sff_header.specs.declared.Header.{Header}
-use Rattle.sff_header.specs.Header.{header_of}
-use Rattle.sff_header.proofs.Fields.{key_length_of, flows_of}
 
-module _ (b : List ℕ) where
+module _ (file : List ℕ) where
   -- the header's test refused
-  module _ {n p : ℕ} (r : Refused n p ≡ header_test b) where
-    pub no_flow_characters : [] ≡ file_flow_characters b
+  module _ {n p : ℕ} (r : Refused n p ≡ header_test file) where
+    pub no_flow_characters : [] ≡ file_flow_characters file
     unfolding file_flow_characters accepted_or
     no_flow_characters = rw (← r)
 
-    pub no_key : [] ≡ file_key b
+    pub no_key : [] ≡ file_key file
     unfolding file_key accepted_or
     no_key = rw (← r)
 
   -- it accepted
-  module _ (a : Accepted ≡ header_test b) where
-    inside : 31 + flows b + key_length b ≤ length b
+  module _ (a : Accepted ≡ header_test file) where
+    inside : 31 + flows file + key_length file ≤ length file
     inside =
-        let s = header_sized b (sym a) in
-        let f = header_fits b (sym a) in
+        let s = header_sized file (sym a) in
+        let f = header_fits file (sym a) in
         omega arith
 
-    -- y is the part that was handed out
-    module _ {h : Header} (e : h ≡ header_of b) {y : List ℕ} where
-      pub flow_characters_part : y ≡ whole_part 31 h.flows b → y ≡ file_flow_characters b
-      flow_characters_part g =
-          g ∙ rw (← flows_of h b e)
-          (whole_in 31 (flows b) b (omega (arith, inside)) ∙ sym (flow_characters_given b (sym a)))
+    pub flow_characters_part : whole_part 31 (flows file) file ≡ file_flow_characters file
+    flow_characters_part =
+        whole_in 31 (flows file) file (omega (arith, inside)) ∙ sym (flow_characters_given file (sym a))
 
-      pub key-part : y ≡ whole_part (31 + h.flows) h.key_length b → y ≡ file_key b
-      key-part g =
-          g ∙ rw (← flows_of h b e, ← key_length_of h b e)
-          (whole_in (31 + flows b) (key_length b) b (omega (arith, inside)) ∙ sym (key_given b (sym a)))
+    pub key_part : whole_part (31 + flows file) (key_length file) file ≡ file_key file
+    key_part = whole_in (31 + flows file) (key_length file) file (omega (arith, inside)) ∙ sym (key_given file (sym a))

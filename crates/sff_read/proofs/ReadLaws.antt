@@ -16,9 +16,9 @@ use Rattle.sff_read.specs.declared.inner.ReadFields.{ReadFields}
 use Rattle.sff_read.specs.Fields.{FieldsAt}
 
 -- the header section of a read whose name is accepted lies in the file
-pub name_fits : (b : List ℕ) (p s L : ℕ) {a : Answer} → a ≡ name_test b p s L → a ≡ Accepted → p + s ≤ length b
+pub name_fits : (b : List ℕ) (p s L : ℕ) → Accepted ≡ name_test b p s L → p + s ≤ length b
 unfolding name_test
-name_fits b p s L e t = under_ok _ _ _ _ (first-ok _ _ (second-ok _ _ (sym e ∙ t)))
+name_fits b p s L e = under_ok _ _ _ _ (first-ok _ _ (second-ok _ _ (sym e)))
 
 -- a read's tests over its two lengths and its fields as they were read
 pub read-tested : (characters b : List ℕ) (p : ℕ) {r : ReadFields} → FieldsAt b p r → {s L : ℕ} → s ≡ section_length b p → L ≡ name_length b p
@@ -52,13 +52,8 @@ module _ (b : List ℕ) (F at n : ℕ) {a : Answer}
       let h : at + n + n - (at + n) ≡ n = omega arith in
       rw (f, g, h) at e
 
-  pub matched_all : a ≡ Accepted → a ≡ shifted at (bases_test (part 31 F b) (part at n b) (part (at + n) n b))
-  unfolding shifted
-  matched_all t = t ∙ sym (rw (← matched, t))
-
-  pub matched_stop : {m p : ℕ} → a ≡ Refused m p → Refused m (at + p) ≡ shifted at (bases_test (part 31 F b) (part at n b) (part (at + n) n b))
-  unfolding shifted
-  matched_stop t = sym (rw (← matched, t))
+  pub matched_shifted : shifted at a ≡ shifted at (bases_test (part 31 F b) (part at n b) (part (at + n) n b))
+  matched_shifted = rw matched
 
   pub matched_in : {m p : ℕ} → a ≡ Refused m p → at + n + n ≤ length b → at + p ≤ length b
   matched_in {m} {p} t h =

@@ -19,7 +19,7 @@ use correction_format::Fields;
 use octets::inner::{get16, get32, same_part, up8};
 use sff_clips::inner::clip_test;
 use sff_file::inner::{first_boundary, next_boundary, past_index};
-use sff_header::inner::{header_fields, is_declared};
+use sff_header::HeadedFile;
 use sff_record::inner::{new_name, old_name};
 use sff_walk::BasePosition;
 
@@ -39,15 +39,15 @@ fn name_among(file: &[u8], position: usize, name: &[u8]) -> bool
     requires { file_test file.now ≡ Accepted }
     ensures { result ≡ name_among name.now (replaced position [] (parse file.now).reads) }
 {
-    let header = header_fields(file);
-    let mut at = first_boundary(file, header);
+    let headed = HeadedFile::new(file);
+    let mut at = first_boundary(&headed);
     let mut behind = 0;
-    while behind < header.reads {
-        let start = past_index(file, header, at);
+    while behind < headed.reads() {
+        let start = past_index(&headed, at);
         if (behind != position) & has_name(file, start.place, name) {
             return true;
         }
-        at = next_boundary(file, header, start);
+        at = next_boundary(&headed, start);
         behind += 1;
     }
     false
@@ -81,8 +81,7 @@ pub fn index_present(file: &[u8], fields: Fields, record: &[u8]) -> bool
     if fields.kind == 1 {
         return false;
     }
-    let header = header_fields(file);
-    is_declared(header.index_offset, header.index_length)
+    HeadedFile::new(file).has_index()
 }
 
 // 23: a new clip is above the read's number of bases.

@@ -1,22 +1,14 @@
 // For the crates above, which have measured the room that each of these fills: hence each `requires`.
-ghost use Rattle.std.specs.Prelude.{◌≡◌, ◌+◌, ◌-◌, ◌*◌, ◌≤◌, ◌<◌, length, replicate};
+ghost use Rattle.std.specs.Prelude.{ℕ, ◌≡◌, ◌+◌, ◌-◌, ◌*◌, ◌≤◌, ◌<◌, length, replicate};
 ghost use Rattle.octets.specs.Parts.{put_at, up8};
-ghost use Rattle.octets.specs.Numbers.{fields};
-ghost use Rattle.sff_format.specs.Model.{layout};
-ghost use Rattle.sff_format.specs.Writing.{new_file, read_of};
-ghost use Rattle.sff_sections.specs.Sections.{clip_fields, section_fields, header_section, data_section, start_fields, length_fields, ReadPut};
+ghost use Rattle.octets.specs.Numbers.{bytes_of, fields};
+ghost use Rattle.sff_format.specs.Model.{layout, layout_read, layout_read_header, layout_read_data};
+ghost use Rattle.sff_format.specs.Writing.{new_file};
+ghost use Rattle.sff_sections.specs.Sections.{read_in, read_size, AllNarrow};
 
-use buffers::inner::{copy, fill, put_words, put16, put32, put64};
+use crate::NewRead;
+use buffers::inner::put_words;
 use octets::inner::up8;
-use sff_format::Clips;
-
-// How many bytes a read occupies.
-pub fn read_size(name_length: usize, flows: usize, bases: usize) -> usize
-    requires { (name_length < 65536) × (flows < 65536) × (bases < 4294967296) }
-    ensures { result ≡ up8 (16 + name_length) + up8 (2 * flows + 3 * bases) }
-{
-    up8(16 + name_length) + up8(2 * flows + 3 * bases)
-}
 
 // How many bytes a header occupies.
 pub fn header_size(flows: usize, key: usize) -> usize
@@ -31,7 +23,7 @@ fn put_bytes(buffer: &mut [u8], at: usize, source: &[u8])
     requires { at + length source.now ≤ length buffer.old }
     ensures { buffer.new ≡ put_at at source.now buffer.old }
 {
-    copy(buffer, at, source, 0, source.len())
+    buffer[at..at + source.len()].copy_from_slice(source);
 }
 
 // Puts zeros behind the used bytes of the section at `at`, up to the next multiple of 8.
@@ -39,114 +31,88 @@ fn put_padding(buffer: &mut [u8], at: usize, used: usize)
     requires { at + up8 used ≤ length buffer.old }
     ensures { buffer.new ≡ put_at (at + used) (replicate (up8 used - used) 0) buffer.old }
 {
-    fill(buffer, at + used, at + up8(used), 0)
+    buffer[at + used..at + up8(used)].fill(0);
 }
 
-// Puts a read's four clips, in file order.
-fn put_clips(buffer: &mut [u8], at: usize, clips: Clips)
-    requires { at + 8 ≤ length buffer.old }
-    ensures { buffer.new ≡ put_at at (fields (clip_fields clips)) buffer.old }
+// Puts the `width` low bytes of `value` at `at`, the most significant first.
+fn put_number(buffer: &mut [u8], at: usize, width: usize, value: usize)
+    requires { (width ≤ 8) × (at + width ≤ length buffer.old) }
+    ensures { buffer.new ≡ put_at at (bytes_of width value) buffer.old }
 {
-    put16(buffer, at, clips.quality_left as usize);
-    put16(buffer, at + 2, clips.quality_right as usize);
-    put16(buffer, at + 4, clips.adapter_left as usize);
-    put16(buffer, at + 6, clips.adapter_right as usize);
+    let bytes = value.to_be_bytes();
+    buffer[at..at + width].copy_from_slice(&bytes[8 - width..]);
 }
 
-// Puts what a read's header section has before the name.
-fn put_section_fields(buffer: &mut [u8], at: usize, name_length: usize, bases: usize, clips: Clips)
-    requires { (at + 16 ≤ length buffer.old) × (name_length ≤ 65512) }
-    ensures { buffer.new ≡ put_at at (fields (section_fields name_length bases clips)) buffer.old }
+// Puts numbers one after another, each of them behind its width in bytes.
+fn put_fields(buffer: &mut [u8], at: usize, numbers: &[(usize, usize)])
+    requires narrow { AllNarrow numbers.now }
+    requires in_bounds { at + length (fields numbers.now) ≤ length buffer.old }
+    ensures { buffer.new ≡ put_at at (fields numbers.now) buffer.old }
 {
-    put16(buffer, at, up8(16 + name_length));
-    put16(buffer, at + 2, name_length);
-    put32(buffer, at + 4, bases);
-    put_clips(buffer, at + 8, clips);
+    let mut place = at;
+    for (width, value) in numbers {
+        put_number(buffer, place, *width, *value);
+        place += *width;
+    }
 }
 
-// Puts the header section of a read of so many bases at `at`.
-pub fn put_read_header(buffer: &mut [u8], at: usize, name: &[u8], bases: usize, clips: Clips)
-    requires name_in_bounds { at + up8 (16 + length name.now) ≤ length buffer.old }
-    requires name_len_bound { length name.now ≤ 65512 }
-    ensures { buffer.new ≡ put_at at (header_section name.now bases clips) buffer.old }
-{
-    put_section_fields(buffer, at, name.len(), bases, clips);
-    put_bytes(buffer, at + 16, name);
-    put_padding(buffer, at, 16 + name.len());
-}
+impl NewRead<'_> {
+    // How many bytes the read occupies.
+    pub fn size(&self) -> usize
+        requires { (length self.now.name.now < 65536) × (length self.now.values.now < 65536) × (length self.now.bases.now < 4294967296) }
+        ensures { result ≡ read_size (read_in self.now) }
+    {
+        up8(16 + self.name.len()) + up8(2 * self.values.len() + 3 * self.bases.len())
+    }
 
-// Puts the data section of a read at `at`.
-pub fn put_read_data(
-    buffer: &mut [u8],
-    at: usize,
-    values: &[u16],
-    increments: &[u8],
-    bases: &[u8],
-    qualities: &[u8],
-)
-    requires bases_in_bounds { at + up8 (2 * length values.now + 3 * length bases.now) ≤ length buffer.old }
-    requires increments_len { (length increments.now ≡ length bases.now) × (length qualities.now ≡ length bases.now) }
-    ensures { buffer.new ≡ put_at at (data_section values.now increments.now bases.now qualities.now) buffer.old }
-{
-    let values_size = 2 * values.len();
-    let n = bases.len();
-    put_words(buffer, at, values);
-    put_bytes(buffer, at + values_size, increments);
-    put_bytes(buffer, at + (values_size + n), bases);
-    put_bytes(buffer, at + (values_size + 2 * n), qualities);
-    put_padding(buffer, at, values_size + 3 * n);
-}
+    // Puts the header section at `at`.
+    fn put_header(&self, buffer: &mut [u8], at: usize)
+        requires name_in_bounds { at + up8 (16 + length self.now.name.now) ≤ length buffer.old }
+        requires name_len_bound { length self.now.name.now ≤ 65512 }
+        ensures { buffer.new ≡ put_at at (layout_read_header (read_in self.now)) buffer.old }
+    {
+        let used = 16 + self.name.len();
+        let fields = [
+            (2, up8(used)),
+            (2, self.name.len()),
+            (4, self.bases.len()),
+            (2, usize::from(self.clips.quality_left)),
+            (2, usize::from(self.clips.quality_right)),
+            (2, usize::from(self.clips.adapter_left)),
+            (2, usize::from(self.clips.adapter_right)),
+        ];
+        put_fields(buffer, at, &fields);
+        put_bytes(buffer, at + 16, self.name);
+        put_padding(buffer, at, used);
+    }
 
-// Puts a read at `at`.
-pub fn put_read(
-    buffer: &mut [u8],
-    at: usize,
-    name: &[u8],
-    clips: Clips,
-    values: &[u16],
-    increments: &[u8],
-    bases: &[u8],
-    qualities: &[u8],
-)
-    requires bases_in_bounds { at + (up8 (16 + length name.now) + up8 (2 * length values.now + 3 * length bases.now)) ≤ length buffer.old }
-    requires name_len_bound { length name.now ≤ 65512 }
-    requires increments_len { (length increments.now ≡ length bases.now) × (length qualities.now ≡ length bases.now) }
-    ensures { ReadPut at
-        (read_of name.now clips values.now increments.now bases.now qualities.now)
-        buffer.old buffer.new }
-{
-    put_read_header(buffer, at, name, bases.len(), clips);
-    put_read_data(
-        buffer,
-        at + up8(16 + name.len()),
-        values,
-        increments,
-        bases,
-        qualities,
-    );
-}
+    // Puts the data section at `at`.
+    fn put_data(&self, buffer: &mut [u8], at: usize)
+        requires bases_in_bounds { at + up8 (2 * length self.now.values.now + 3 * length self.now.bases.now) ≤ length buffer.old }
+        requires increments_len { length self.now.increments.now ≡ length self.now.bases.now }
+        requires qualities_len { length self.now.qualities.now ≡ length self.now.bases.now }
+        ensures { buffer.new ≡ put_at at (layout_read_data (read_in self.now)) buffer.old }
+    {
+        let values_size = 2 * self.values.len();
+        let n = self.bases.len();
+        put_words(buffer, at, self.values);
+        put_bytes(buffer, at + values_size, self.increments);
+        put_bytes(buffer, at + (values_size + n), self.bases);
+        put_bytes(buffer, at + (values_size + 2 * n), self.qualities);
+        put_padding(buffer, at, values_size + 3 * n);
+    }
 
-// Puts a header's fields from 0 to 24: the magic, the version, no index, no reads.
-fn put_start_fields(buffer: &mut [u8])
-    requires { 24 ≤ length buffer.old }
-    ensures { buffer.new ≡ put_at 0 (fields start_fields) buffer.old }
-{
-    put32(buffer, 0, 0x2E736666);
-    put32(buffer, 4, 1);
-    put64(buffer, 8, 0);
-    put32(buffer, 16, 0);
-    put32(buffer, 20, 0);
-}
-
-// Puts a header's fields from 24 to 31: the lengths, and the format code.
-fn put_length_fields(buffer: &mut [u8], flows: usize, key: usize)
-    requires { (31 ≤ length buffer.old) × (flows + key ≤ 65497) }
-    ensures { buffer.new ≡ put_at 24 (fields (length_fields flows key)) buffer.old }
-{
-    put16(buffer, 24, header_size(flows, key));
-    put16(buffer, 26, key);
-    put16(buffer, 28, flows);
-    buffer[30] = 1;
+    // Puts the read at `at`.
+    pub fn put(&self, buffer: &mut [u8], at: usize)
+        requires in_bounds { at + read_size (read_in self.now) ≤ length buffer.old }
+        requires name_len_bound { length self.now.name.now ≤ 65512 }
+        requires increments_len { length self.now.increments.now ≡ length self.now.bases.now }
+        requires qualities_len { length self.now.qualities.now ≡ length self.now.bases.now }
+        ensures { buffer.new ≡ put_at at (layout_read (read_in self.now)) buffer.old }
+    {
+        self.put_header(buffer, at);
+        self.put_data(buffer, at + up8(16 + self.name.len()));
+    }
 }
 
 // Puts a new file: a header alone.
@@ -156,8 +122,18 @@ pub fn put_new_header(buffer: &mut [u8], flows: &[u8], key: &[u8])
     ensures { buffer.new ≡ put_at 0 (layout (new_file flows.now key.now)) buffer.old }
 {
     let key_at = 31 + flows.len();
-    put_start_fields(buffer);
-    put_length_fields(buffer, flows.len(), key.len());
+    let fields = [
+        (4, 0x2E736666),
+        (4, 1),
+        (8, 0),
+        (4, 0),
+        (4, 0),
+        (2, header_size(flows.len(), key.len())),
+        (2, key.len()),
+        (2, flows.len()),
+        (1, 1),
+    ];
+    put_fields(buffer, 0, &fields);
     put_bytes(buffer, 31, flows);
     put_bytes(buffer, key_at, key);
     put_padding(buffer, 0, key_at + key.len());

@@ -2,4 +2,37 @@
 
 #![tactic(auto)]
 
+ghost use Rattle.std.specs.Prelude.{◌≡◌, length};
+ghost use Rattle.sff_format.specs.Writing.{bad_counts};
+ghost use Rattle.sff_sections.specs.Sections.{read_in};
+
 pub mod inner;
+
+use sff_format::Clips;
+
+// The most bases that a read can count, in four bytes.
+const MOST_BASES: usize = 4294967295;
+
+// A read that is to be written: its parts, each lent.
+#[derive(Clone, Copy)]
+pub struct NewRead<'a> {
+    pub name: &'a [u8],
+    pub clips: Clips,
+    pub values: &'a [u16],
+    pub increments: &'a [u8],
+    pub bases: &'a [u8],
+    pub qualities: &'a [u8],
+}
+
+impl NewRead<'_> {
+    // The counts: they differ from F or from each other, or there are more bases than a read can count (30).
+    #[tactic(auto, unfolding(sff_format::specs::Writing::bad_counts))]
+    pub fn has_bad_counts(&self, flows: usize) -> bool
+        ensures { let read = read_in self.now in
+            result ≡ bad_counts flows (length read.values) (length read.increments) (length read.bases) (length read.qualities) }
+    {
+        let bases = self.bases.len();
+        ((self.values.len() != flows) | (self.increments.len() != bases))
+            | ((self.qualities.len() != bases) | (bases > MOST_BASES))
+    }
+}

@@ -13,7 +13,7 @@ use crate::inner::values_summary;
 use answers::{Cause, Refusal};
 use sff_find::inner::view_of;
 use sff_find::position_test;
-use sff_header::inner::header_fields;
+use sff_header::HeadedFile;
 
 // The strongest and the weakest signal of a read's flows, and the mean.
 #[derive(Clone, Copy)]
@@ -28,7 +28,7 @@ pub fn signal_test(file: &[u8], position: usize) -> Result<(), Refusal>
     ensures { answer_of result ≡ signal_test file.now position }
 {
     position_test(file, position)?;
-    if header_fields(file).flows == 0 {
+    if HeadedFile::new(file).flows() == 0 {
         return Err(Refusal(Cause::NoFlows, 0));
     }
     Ok(())

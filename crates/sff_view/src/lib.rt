@@ -7,13 +7,13 @@ ghost use Rattle.std.specs.Prelude.{◌≡◌};
 ghost use Rattle.answers.specs.Answer.{when, ◌then◌, answer_of};
 ghost use Rattle.sff_format.specs.View.{bytes_in, insert_in, outside, insert_outside, view_test};
 
+pub mod inner;
+
+use crate::inner::insert_in;
 use answers::{Cause, Refusal};
 use octets::whole_part;
-use sff_clips::inner::insert_span;
 use sff_clips::{first_base, last_base};
 use sff_format::{ReadView, Span};
-
-pub mod inner;
 
 fn bytes_in(file: &[u8], x: Span) -> &[u8]
     ensures { result.now ≡ bytes_in file.now x }
@@ -56,19 +56,14 @@ pub fn qualities(view: ReadView, file: &[u8]) -> &[u8]
 pub fn insert(view: ReadView, file: &[u8]) -> &[u8]
     ensures { result.now ≡ insert_in view (bytes_in file.now view.bases) }
 {
-    let all = bases(view, file);
-    let part = insert_span(view);
-    bytes_in(all, part)
+    insert_in(view, bases(view, file))
 }
 
 // 1 at the start of a stretch that does not lie in the file whole. Its end is never added up: the sum could wrap.
 fn part_test(file: &[u8], x: Span) -> Result<(), Refusal>
     ensures { answer_of result ≡ when (outside file.now x) 1 x.at }
 {
-    if x.at > file.len() {
-        return Err(Refusal(Cause::CutShort, x.at));
-    }
-    if x.size > file.len() - x.at {
+    if x.at > file.len() || x.size > file.len() - x.at {
         return Err(Refusal(Cause::CutShort, x.at));
     }
     Ok(())

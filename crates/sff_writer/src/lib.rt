@@ -6,7 +6,8 @@
 ghost use Rattle.std.specs.Prelude.{◌≡◌, ◌<◌, length};
 ghost use Rattle.answers.specs.Answer.{zero_place, answer_of};
 ghost use Rattle.sff_format.specs.ReadTest.{clip_test};
-ghost use Rattle.sff_format.specs.Writing.{new_test, outcome_of, new_outcome, new_buffer, read_of, bad_counts, given_test, open_test, append_test, AppendLeaves};
+ghost use Rattle.sff_format.specs.Writing.{new_test, outcome_of, new_outcome, new_buffer, given_test, open_test, append_test, AppendLeaves};
+ghost use Rattle.sff_sections.specs.Sections.{read_in};
 
 use answers::{Cause, Refusal};
 use buffers::inner::put32;
@@ -15,34 +16,25 @@ use octets::{ByteTest, fails};
 use sff_clips::inner::clip_test;
 use sff_file::file_test;
 use sff_format::Clips;
-use sff_header::inner::{header_fields, is_declared};
-use sff_sections::inner::{header_size, put_new_header, put_read, read_size};
+use sff_header::HeadedFile;
+use sff_sections::NewRead;
+use sff_sections::inner::{header_size, put_new_header};
 use sff_walk::BasePosition;
 use sff_walk::inner::bases_test;
 
-// A refusal of the writer's own input, at place 0.
-fn zero_place(answer: Result<(), Refusal>) -> Result<(), Refusal>
-    ensures { answer_of result ≡ zero_place (answer_of answer) }
-{
-    match answer {
-        Ok(()) => Ok(()),
-        Err(Refusal(cause, _)) => Err(Refusal(cause, 0)),
-    }
-}
+// The most flow and key characters that leave the header's length below 65,536, the longest name that leaves a read's
+// header section's length so, and the most reads that the count at 20 can say.
+const MOST_CHARACTERS: usize = 65497;
 
-// The counts: they differ from F or from each other, or there are more bases than a read can count (30).
-fn bad_counts(
-    flows: usize,
-    values: &[u16],
-    increments: &[u8],
-    bases: &[u8],
-    qualities: &[u8],
-) -> bool
-    ensures { result ≡ bad_counts flows (length values.now) (length increments.now) (length bases.now) (length qualities.now) }
+const LONGEST_NAME: usize = 65512;
+
+const MOST_READS: usize = 4294967295;
+
+// A refusal of the writer's own input, at place 0.
+fn zero_place(tested: Result<(), Refusal>) -> Result<(), Refusal>
+    ensures { answer_of result ≡ zero_place (answer_of tested) }
 {
-    let n = bases.len();
-    ((values.len() != flows) | (increments.len() != n))
-        | ((qualities.len() != n) | (n > 4294967295))
+    tested.map_err(|Refusal(cause, _)| Refusal(cause, 0))
 }
 
 // The clips: one above its limit (9), at place 0 as they are the caller's.
@@ -53,48 +45,37 @@ fn clips_test(clips: Clips, bases: usize) -> Result<(), Refusal>
     zero_place(clip_test(
         0,
         bases,
-        BasePosition(clips.quality_left as usize),
-        BasePosition(clips.quality_right as usize),
-        BasePosition(clips.adapter_left as usize),
-        BasePosition(clips.adapter_right as usize),
+        BasePosition(usize::from(clips.quality_left)),
+        BasePosition(usize::from(clips.quality_right)),
+        BasePosition(usize::from(clips.adapter_left)),
+        BasePosition(usize::from(clips.adapter_right)),
     ))
 }
 
 // A read for a file with these flow characters: its counts (30), its name's length (5) and bytes (6), its clips (9),
 // the flow walk (10), a base (11).
-fn given_test(
-    characters: &[u8],
-    name: &[u8],
-    clips: Clips,
-    values: &[u16],
-    increments: &[u8],
-    bases: &[u8],
-    qualities: &[u8],
-) -> Result<(), Refusal>
+fn given_test(characters: &[u8], read: &NewRead) -> Result<(), Refusal>
     requires { length characters.now < 65536 }
-    ensures { answer_of result ≡ given_test characters.now (read_of name.now clips values.now increments.now bases.now qualities.now) }
+    ensures { answer_of result ≡ given_test characters.now (read_in read.now) }
 {
-    if bad_counts(characters.len(), values, increments, bases, qualities) {
+    if read.has_bad_counts(characters.len()) {
         return Err(Refusal(Cause::Counts, 0));
     }
-    if name.len() > 65512 {
+    if read.name.len() > LONGEST_NAME {
         return Err(Refusal(Cause::SectionLength, 0));
     }
-    if fails(ByteTest::NameByte, name) {
+    if fails(ByteTest::NameByte, read.name) {
         return Err(Refusal(Cause::Character, 0));
     }
-    clips_test(clips, bases.len())?;
-    zero_place(bases_test(characters, increments, bases))
+    clips_test(read.clips, read.bases.len())?;
+    zero_place(bases_test(characters, read.increments, read.bases))
 }
 
 // A new file's reasons to refuse: too many characters (5), a character (6), no room (26).
 fn new_test(room: usize, flows: &[u8], key: &[u8]) -> Result<(), Refusal>
     ensures { answer_of result ≡ new_test room flows.now key.now }
 {
-    if flows.len() > 65497 {
-        return Err(Refusal(Cause::SectionLength, 0));
-    }
-    if key.len() > 65497 - flows.len() {
+    if flows.len() + key.len() > MOST_CHARACTERS {
         return Err(Refusal(Cause::SectionLength, 0));
     }
     if fails(ByteTest::FlowCharacter, flows) | fails(ByteTest::FlowCharacter, key) {
@@ -122,29 +103,19 @@ fn open_test(file: &[u8]) -> Result<(), Refusal>
     ensures { answer_of result ≡ open_test file.now }
 {
     file_test(file)?;
-    let header = header_fields(file);
-    if is_declared(header.index_offset, header.index_length) {
+    let headed = HeadedFile::new(file);
+    if headed.has_index() {
         return Err(Refusal(Cause::IndexPresent, 0));
     }
-    if header.reads == 4294967295 {
+    if headed.reads() == MOST_READS {
         return Err(Refusal(Cause::ReadCount, 0));
     }
     Ok(())
 }
 
 // An append's reasons to refuse: a length above the buffer (14), those of the file, those of the read, no room (26).
-fn append_test(
-    buffer: &[u8],
-    file_length: usize,
-    name: &[u8],
-    clips: Clips,
-    values: &[u16],
-    increments: &[u8],
-    bases: &[u8],
-    qualities: &[u8],
-) -> Result<(), Refusal>
-    ensures { answer_of result ≡ append_test buffer.now file_length
-        (read_of name.now clips values.now increments.now bases.now qualities.now) }
+fn append_test(buffer: &[u8], file_length: usize, read: &NewRead) -> Result<(), Refusal>
+    ensures { answer_of result ≡ append_test buffer.now file_length (read_in read.now) }
 {
     if file_length > buffer.len() {
         return Err(Refusal(Cause::FileLength, 0));
@@ -152,16 +123,8 @@ fn append_test(
     let file = &buffer[..file_length];
     open_test(file)?;
     let flows = header_fields(file).flows;
-    given_test(
-        &file[31..31 + flows],
-        name,
-        clips,
-        values,
-        increments,
-        bases,
-        qualities,
-    )?;
-    if buffer.len() - file_length < read_size(name.len(), values.len(), bases.len()) {
+    given_test(&file[31..31 + flows], read)?;
+    if buffer.len() - file_length < read.size() {
         return Err(Refusal(Cause::NoRoom, 0));
     }
     Ok(())
@@ -169,41 +132,12 @@ fn append_test(
 
 // Puts a read behind the file that fills the first `file_length` bytes of the buffer, and counts it. Answers the file's
 // length afterwards; refused, file and buffer are as they were.
-pub fn append(
-    buffer: &mut [u8],
-    file_length: usize,
-    name: &[u8],
-    clips: Clips,
-    values: &[u16],
-    increments: &[u8],
-    bases: &[u8],
-    qualities: &[u8],
-) -> Result<usize, Refusal>
-    ensures { AppendLeaves buffer.old file_length
-        (read_of name.now clips values.now increments.now bases.now qualities.now)
-        (outcome_of file_length result) buffer.new }
+pub fn append(buffer: &mut [u8], file_length: usize, read: &NewRead) -> Result<usize, Refusal>
+    ensures { AppendLeaves buffer.old file_length (read_in read.now) (outcome_of file_length result) buffer.new }
 {
-    append_test(
-        buffer,
-        file_length,
-        name,
-        clips,
-        values,
-        increments,
-        bases,
-        qualities,
-    )?;
+    append_test(buffer, file_length, read)?;
     let reads = get32(buffer, 20);
-    put_read(
-        buffer,
-        file_length,
-        name,
-        clips,
-        values,
-        increments,
-        bases,
-        qualities,
-    );
+    read.put(buffer, file_length);
     put32(buffer, 20, reads + 1);
-    Ok(file_length + read_size(name.len(), values.len(), bases.len()))
+    Ok(file_length + read.size())
 }

@@ -1,34 +1,44 @@
+-- Each step by the invariant: an index or a read that is refused, a read that is accepted, the end.
+use Prim.Native.Nat.{suc, ◌+◌, ◌-◌}
+use mathlib.Core.Path.{◌≡◌}
 use Rattle.std.proofs.Common.{arith}
-use Rattle.sff_format.proofs.Sizes.{size-most}
-use Rattle.sff_file.proofs.Sections.{boundaries}
+use Rattle.answers.proofs.Chains.{returned}
+use Rattle.sff_file.proofs.Sections.{boundaries, sections_first, past_inside, sections_characters, read_begins, stop_read, sections_read}
 use Rattle.sff_file.proofs.sections_test.Goals as goal
 
-pub loop-index-init : goal.loop-index-init
-loop-index-init c = search boundaries
+pub returns-in_err-index_test : goal.returns-in_err-index_test
+returns-in_err-index_test c = search (boundaries, c.in_err-index_test.ensures)
 
-pub overflow_add-place : goal.overflow_add-place
-overflow_add-place c = omega (arith, size-most c.args.header.index_length)
+pub returns-in_err-read_test : goal.returns-in_err-read_test
+returns-in_err-read_test c =
+    let one : c.reads-reads.result - c.loop-passed._passed ≡ suc (c.reads-reads.result - (c.loop-passed._passed + 1)) = omega arith in
+    stop_read c.loop-passed.invariant c.in_ok-index_test.ensures c.past_index-start.ensures one
+    (rw (c.flows.ensures.0, c.bytes.ensures.value) at c.in_err-read_test.ensures)
+    (returned _ _ c.from_residual-in_err-read_test.ensures)
 
-pub reads_test-requires-clause-from_in_bounds : goal.reads_test-requires-clause-from_in_bounds
-reads_test-requires-clause-from_in_bounds c = search boundaries
+pub loop-passed-init : goal.loop-passed-init
+loop-passed-init c = sections_first c.requires c.first_boundary-at.ensures (omega (arith, c.reads-reads.ensures.0))
 
-pub read_test-read-requires : goal.read_test-read-requires
-read_test-read-requires c = search boundaries
+pub loop-passed-preserved : goal.loop-passed-preserved
+loop-passed-preserved c =
+    let one : c.reads-reads.result - c.loop-passed._passed ≡ suc (c.reads-reads.result - (c.loop-passed._passed + 1)) = omega arith in
+    sections_read c.loop-passed.invariant c.in_ok-index_test.ensures c.past_index-start.ensures one
+    (rw (c.flows.ensures.0, c.bytes.ensures.value) at c.in_ok-read_test.ensures)
+    c.next_boundary-at.ensures
 
-pub read_end-place-requires : goal.read_end-place-requires
-read_end-place-requires c = search boundaries
+pub returns : goal.returns
+returns c = search (boundaries, c.in_ok-index_test-2.ensures)
 
-pub loop-index-preserved : goal.loop-index-preserved
-loop-index-preserved c = search boundaries
+pub returns-in_err-index_test-2 : goal.returns-in_err-index_test-2
+returns-in_err-index_test-2 c = search (boundaries, c.in_err-index_test-2.ensures)
 
-pub returns-in_default : goal.returns-in_default
-returns-in_default c = search boundaries
+pub read_test-requires : goal.read_test-requires
+read_test-requires c =
+    rw c.bytes.ensures.value (
+      past_inside c.loop-passed.invariant c.in_ok-index_test.ensures c.past_index-start.ensures,
+      c.flows.ensures.1,
+      rw c.flows.ensures.0 (sections_characters c.loop-passed.invariant),
+    )
 
-pub returns-in-Accepted : goal.returns-in-Accepted
-returns-in-Accepted c = search boundaries
-
-pub returns-then-left-eq0 : goal.returns-then-left-eq0
-returns-then-left-eq0 c = search boundaries
-
-pub returns-in_default-read : goal.returns-in_default-read
-returns-in_default-read c = search boundaries
+pub next_boundary-at-requires : goal.next_boundary-at-requires
+next_boundary-at-requires c = read_begins _ _ _ (rw c.bytes.ensures.value at c.in_ok-read_test.ensures)

@@ -1,26 +1,27 @@
 -- The code makes the tests of `fixed_test` in their order: a `return` stands where one refuses, the end where all have
 -- accepted. The calls gave the numbers that it compares.
+use mathlib.Core.Path.{sym}
 use Rattle.answers.proofs.Chains.{refusal, onward}
 use Rattle.sff_format.specs.HeaderTest.{fixed_test}
-use Rattle.sff_header.proofs.Fields.{byte_differs, byte_is, length_differs, length_is}
+use Rattle.sff_header.proofs.Fields.{byte_differs, byte_is}
 use Rattle.sff_header.proofs.fixed_test.Goals as goal
 
 pub returns-then-get32-ne779314790 : goal.returns-then-get32-ne779314790
 unfolding fixed_test
-returns-then-get32-ne779314790 c = search refusal
+returns-then-get32-ne779314790 c = rw (← c.bytes-bytes.ensures.value) (search refusal)
 
 pub returns-then-get32-ne1 : goal.returns-then-get32-ne1
 unfolding fixed_test
-returns-then-get32-ne1 c = search refusal
+returns-then-get32-ne1 c = rw (← c.bytes-bytes.ensures.value) (search refusal)
 
-pub returns-then-file-ne1 : goal.returns-then-file-ne1
+pub returns-then-bytes-ne1 : goal.returns-then-bytes-ne1
 unfolding fixed_test
-returns-then-file-ne1 c = search (refusal, byte_differs)
+returns-then-bytes-ne1 c = rw (← c.bytes-bytes.ensures.value) (search (refusal, byte_differs))
 
-pub returns-then-header-up8 : goal.returns-then-header-up8
+pub returns-then-length-up8 : goal.returns-then-length-up8
 unfolding fixed_test
-returns-then-header-up8 c = search (refusal, byte_is, length_differs)
+returns-then-length-up8 c = rw (← c.length.ensures.0, ← c.characters_end.ensures.0, ← c.bytes-bytes.ensures.value) (search (refusal, byte_is))
 
 pub returns : goal.returns
 unfolding fixed_test
-returns c = search (onward, byte_is, length_is)
+returns c = rw (← c.length.ensures.0, ← c.characters_end.ensures.0, ← c.bytes-bytes.ensures.value) (search (onward, byte_is))

@@ -1,14 +1,14 @@
--- Where the header is accepted its key characters lie in the file whole; where it is refused there are none.
-use mathlib.Core.Path.{sym}
+-- Where the header is accepted its characters lie in the file whole; where it is refused there are none.
+use mathlib.Core.Path.{sym, ◌∙◌}
 use Rattle.sff_format.proofs.HeaderLaws.{fits_31}
-use Rattle.sff_header.proofs.Characters.{no_key, key-part}
+use Rattle.sff_header.proofs.Characters.{no_key, key_part}
 use Rattle.sff_header.proofs.key.Goals as goal
 
 pub returns-in_default : goal.returns-in_default
-returns-in_default c = search (no_key, c.in_default.ensures)
+returns-in_default c = no_key _ c.in_default.ensures
 
-pub header_fields-header-requires : goal.header_fields-header-requires
-header_fields-header-requires c = fits_31 _ (sym c.in-Ok.ensures)
+pub new-requires : goal.new-requires
+new-requires c = fits_31 _ (sym c.in-Ok.ensures)
 
 pub returns : goal.returns
-returns c = search (key-part, c.in-Ok.ensures)
+returns c = c.key.ensures ∙ rw c.new.ensures (key_part _ c.in-Ok.ensures)

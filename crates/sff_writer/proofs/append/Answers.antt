@@ -1,52 +1,59 @@
 -- An append that is not refused has room for the count and the read; the bytes and the length are what the calls gave.
+use mathlib.Core.Path.{◌∙◌}
 use native.Mathlib.Omega.{arith}
 use Rattle.octets.proofs.AllBytes.{bytes_of_lem}
 use Rattle.std.proofs.Common.{rules}
-use Rattle.sff_writer.proofs.Reasons.{append_refused, append-fits, append-outcome, append-buffer}
+use Rattle.sff_writer.proofs.Reasons.{outcome_returned, append_refused, append-fits, append-outcome, append-buffer}
 use Rattle.sff_writer.proofs.append.Goals as goal
 
-pub returns-in_default : goal.returns-in_default
-returns-in_default c = append_refused _ _ _ c.append_test-answer.ensures c.in_default.is
+pub returns-in_err-append_test : goal.returns-in_err-append_test
+returns-in_err-append_test c =
+    let left = append_refused _ _ _ c.in_err-append_test.ensures in
+    (outcome_returned _ _ _ c.from_residual.ensures ∙ left.0, left.1)
 
 pub get32-reads-requires : goal.get32-reads-requires
 get32-reads-requires c =
-    let f = append-fits _ _ _ c.append_test-answer.ensures c.in-Accepted.is (bytes_of_lem _ (search rules)) in
+    let f = append-fits _ _ _ c.in_ok-append_test.ensures (bytes_of_lem _ (search rules)) in
     omega arith
 
-pub put_read-requires-clause-bases_in_bounds : goal.put_read-requires-clause-bases_in_bounds
-put_read-requires-clause-bases_in_bounds c =
-    let f = append-fits _ _ _ c.append_test-answer.ensures c.in-Accepted.is (bytes_of_lem _ (search rules)) in
+pub put-requires-clause-in_bounds : goal.put-requires-clause-in_bounds
+put-requires-clause-in_bounds c =
+    let f = append-fits _ _ _ c.in_ok-append_test.ensures (bytes_of_lem _ (search rules)) in
     f.whole
 
-pub put_read-requires-clause-name_len_bound : goal.put_read-requires-clause-name_len_bound
-put_read-requires-clause-name_len_bound c =
-    let f = append-fits _ _ _ c.append_test-answer.ensures c.in-Accepted.is (bytes_of_lem _ (search rules)) in
+pub put-requires-clause-name_len_bound : goal.put-requires-clause-name_len_bound
+put-requires-clause-name_len_bound c =
+    let f = append-fits _ _ _ c.in_ok-append_test.ensures (bytes_of_lem _ (search rules)) in
     f.name
 
-pub put_read-requires-clause-increments_len : goal.put_read-requires-clause-increments_len
-put_read-requires-clause-increments_len c =
-    let f = append-fits _ _ _ c.append_test-answer.ensures c.in-Accepted.is (bytes_of_lem _ (search rules)) in
-    (f.increments, f.qualities)
+pub put-requires-clause-increments_len : goal.put-requires-clause-increments_len
+put-requires-clause-increments_len c =
+    let f = append-fits _ _ _ c.in_ok-append_test.ensures (bytes_of_lem _ (search rules)) in
+    f.increments
+
+pub put-requires-clause-qualities_len : goal.put-requires-clause-qualities_len
+put-requires-clause-qualities_len c =
+    let f = append-fits _ _ _ c.in_ok-append_test.ensures (bytes_of_lem _ (search rules)) in
+    f.qualities
 
 pub put32-requires : goal.put32-requires
 put32-requires c =
-    let f = append-fits _ _ _ c.append_test-answer.ensures c.in-Accepted.is (bytes_of_lem _ (search rules)) in
+    let f = append-fits _ _ _ c.in_ok-append_test.ensures (bytes_of_lem _ (search rules)) in
     omega arith
 
-pub read_size-size-requires : goal.read_size-size-requires
-read_size-size-requires c =
-    let f = append-fits _ _ _ c.append_test-answer.ensures c.in-Accepted.is (bytes_of_lem _ (search rules)) in
+pub size-requires : goal.size-requires
+size-requires c =
+    let f = append-fits _ _ _ c.in_ok-append_test.ensures (bytes_of_lem _ (search rules)) in
     (omega arith, f.values, f.bases)
 
 pub overflow_add-result : goal.overflow_add-result
 overflow_add-result c =
-    let f = append-fits _ _ _ c.append_test-answer.ensures c.in-Accepted.is (bytes_of_lem _ (search rules)) in
+    let f = append-fits _ _ _ c.in_ok-append_test.ensures (bytes_of_lem _ (search rules)) in
     omega arith
 
 pub returns : goal.returns
 returns c =
-    let e = c.append_test-answer.ensures in
-    let t = c.in-Accepted.is in (
-      append-outcome _ _ _ e t c.read_size-size.ensures,
-      append-buffer _ _ _ e t c.get32-reads.ensures.0 c.put_read.ensures c.put32.ensures,
+    let e = c.in_ok-append_test.ensures in (
+      append-outcome _ _ _ e c.size.ensures,
+      append-buffer _ _ _ e c.get32-reads.ensures.0 c.put.ensures c.put32.ensures,
     )

@@ -10,24 +10,24 @@ pub returns-then-file_length-buffer : goal.returns-then-file_length-buffer
 unfolding append_test
 returns-then-file_length-buffer c = search refusal
 
-pub returns-in_default : goal.returns-in_default
+pub returns-in_err-open_test : goal.returns-in_err-open_test
 unfolding append_test
-returns-in_default c = search refusal
+returns-in_err-open_test c = search (refusal, c.in_err-open_test.ensures)
 
 pub header_fields-flows-requires : goal.header_fields-flows-requires
-header_fields-flows-requires c = search open_header
+header_fields-flows-requires c = search (open_header, c.in_ok-open_test.ensures)
 
 pub slice_bounds-given_test-end : goal.slice_bounds-given_test-end
-slice_bounds-given_test-end c = search open_characters
+slice_bounds-given_test-end c = search (open_characters, c.in_ok-open_test.ensures)
 
-pub returns-in_default-given : goal.returns-in_default-given
-returns-in_default-given c = search (refusal, append-tested)
+pub returns-in_err-given_test : goal.returns-in_err-given_test
+returns-in_err-given_test c = search (refusal, append-tested, c.in_ok-open_test.ensures, c.in_err-given_test.ensures)
 
-pub read_size-requires : goal.read_size-requires
-read_size-requires c = given_bounds _ _ c.given_test-given.ensures c.in-Accepted-given.is (omega arith)
+pub size-requires : goal.size-requires
+size-requires c = given_bounds _ _ c.in_ok-given_test.ensures (omega arith)
 
 pub returns-then-buffer-file_length : goal.returns-then-buffer-file_length
-returns-then-buffer-file_length c = search (refusal, append-tested, read_over) depth 9
+returns-then-buffer-file_length c = search (refusal, append-tested, read_over, c.in_ok-open_test.ensures, c.in_ok-given_test.ensures) depth 9
 
 pub returns : goal.returns
-returns c = search (onward, append-tested, read-within) depth 9
+returns c = search (onward, append-tested, read-within, c.in_ok-open_test.ensures, c.in_ok-given_test.ensures) depth 9

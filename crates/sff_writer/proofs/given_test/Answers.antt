@@ -8,31 +8,31 @@ use Rattle.sff_format.proofs.Given.{counts_ok}
 use Rattle.sff_writer.proofs.Reasons.{zero_place_told}
 use Rattle.sff_writer.proofs.given_test.Goals as goal
 
-pub returns-then-bad_counts : goal.returns-then-bad_counts
+pub returns-then-has_bad_counts : goal.returns-then-has_bad_counts
 unfolding given_test
-returns-then-bad_counts c = search refusal
+returns-then-has_bad_counts c = search refusal
 
-pub returns-then-name-gt65512 : goal.returns-then-name-gt65512
+pub returns-then-read-gt-LONGEST_NAME : goal.returns-then-read-gt-LONGEST_NAME
 unfolding given_test
-returns-then-name-gt65512 c = search refusal
+returns-then-read-gt-LONGEST_NAME c = search refusal
 
 pub returns-then-fails : goal.returns-then-fails
 unfolding given_test
 returns-then-fails c = search refusal
 
-pub clips_test-clipped-requires : goal.clips_test-clipped-requires
-clips_test-clipped-requires c =
-    omega (arith, counts_ok _ _ _ _ _ (sym c.bad_counts.ensures ∙ c.if-bad_counts.false))
+pub clips_test-requires : goal.clips_test-requires
+clips_test-requires c =
+    omega (arith, counts_ok _ _ _ _ _ (sym c.has_bad_counts.ensures ∙ c.if-has_bad_counts.false))
 
-pub returns-in_default : goal.returns-in_default
+pub returns-in_err-clips_test : goal.returns-in_err-clips_test
 unfolding given_test
-returns-in_default c = search refusal
+returns-in_err-clips_test c = search (refusal, c.in_err-clips_test.ensures)
 
 pub bases_test-requires : goal.bases_test-requires
 bases_test-requires c =
-    let good = counts_ok _ _ _ _ _ (sym c.bad_counts.ensures ∙ c.if-bad_counts.false) in
+    let good = counts_ok _ _ _ _ _ (sym c.has_bad_counts.ensures ∙ c.if-has_bad_counts.false) in
     (c.requires, good.1, good.3)
 
 pub returns : goal.returns
 unfolding given_test
-returns c = search (onward, zero_place_told) depth 9
+returns c = search (onward, zero_place_told, c.in_ok-clips_test.ensures) depth 9

@@ -1,11 +1,7 @@
--- In either case of the answer the definition gives what the code does.
-use Rattle.answers.specs.Answer.{zero_place}
+-- `map_err` keeps what is accepted, and gives a refusal the place 0.
+use Rattle.std.proofs.Common.{rules}
+use Rattle.sff_writer.proofs.Reasons.{zero_placed}
 use Rattle.sff_writer.proofs.zero_place.Goals as goal
 
-pub returns-in-Accepted : goal.returns-in-Accepted
-unfolding zero_place
-returns-in-Accepted c = rw c.in-Accepted.is
-
-pub returns-in-Refused : goal.returns-in-Refused
-unfolding zero_place
-returns-in-Refused c = rw c.in-Refused.is
+pub returns : goal.returns
+returns c = zero_placed c.args.tested c.map_err.result _ c.map_err.ensures.cases (λ e r h. search rules)

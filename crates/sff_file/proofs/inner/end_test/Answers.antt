@@ -1,14 +1,17 @@
 -- The code makes the tests of `end_test` in their order: a `return` stands where one refuses, the end where all have
--- accepted. `end_tested` says them of the header's fields.
+-- accepted.
 use Rattle.answers.proofs.Chains.{refusal, onward}
-use Rattle.sff_file.proofs.Sections.{end_tested}
+use Rattle.sff_format.specs.FileTest.{end_test}
 use Rattle.sff_file.proofs.inner.end_test.Goals as goal
 
-pub returns-then-is_declared-passed : goal.returns-then-is_declared-passed
-returns-then-is_declared-passed c = search (refusal, end_tested)
+pub returns-then-has_index-at : goal.returns-then-has_index-at
+unfolding end_test
+returns-then-has_index-at c = search refusal
 
-pub returns-then-place-file : goal.returns-then-place-file
-returns-then-place-file c = search (refusal, end_tested)
+pub returns-then-at-bytes : goal.returns-then-at-bytes
+unfolding end_test
+returns-then-at-bytes c = let inside = rw c.bytes.ensures.value at c.if-at-bytes.true in search refusal
 
 pub returns : goal.returns
-returns c = search (onward, end_tested)
+unfolding end_test
+returns c = let past = rw c.bytes.ensures.value at c.if-at-bytes.false in search onward

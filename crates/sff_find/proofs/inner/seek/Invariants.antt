@@ -1,11 +1,7 @@
 -- At each turn as many reads are behind the boundary as were passed (`Walk`): past any index the next read begins
 -- there, and at the end that is the read at the position.
-use Prim.Native.Nat.{◌-◌, ◌≤◌}
 use Rattle.sff_format.specs.Walk.{Walk}
 use Rattle.sff_find.proofs.inner.seek.Given as goal
 
 abbrev pub invariant-loop-passed : goal.invariant-loop-passed
-invariant-loop-passed l = Walk l.file l.passed l.at × (l.passed ≤ l.position)
-
-abbrev pub decreases-loop-passed : goal.decreases-loop-passed
-decreases-loop-passed l = l.position - l.passed
+invariant-loop-passed l = Walk l.file l._passed l.at

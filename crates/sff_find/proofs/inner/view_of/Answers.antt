@@ -1,11 +1,13 @@
--- The read's place is the one found, and the number of flows stands in the header's fields: what is read there is
--- `view_of`.
-use Rattle.sff_header.proofs.Fields.{flows_of}
+-- The read's place is the one found: what is read there is `view_of`.
 use Rattle.sff_find.proofs.Chosen.{file_31}
+use Rattle.std.proofs.Common.{rules}
 use Rattle.sff_find.proofs.inner.view_of.Goals as goal
 
-pub header_fields-flows-requires : goal.header_fields-flows-requires
-header_fields-flows-requires c = search file_31
+pub new-requires : goal.new-requires
+new-requires c = search file_31
+
+pub view_at-requires : goal.view_at-requires
+view_at-requires c = rw c.new.ensures c.find-place.ensures.1
 
 pub returns : goal.returns
-returns c = rw (flows_of _ _ c.header_fields-flows.ensures.value, ← c.find-place.ensures.0) c.read_view.ensures
+returns c = rw (← c.find-place.ensures.0, ← c.new.ensures) (search rules)

@@ -1,0 +1,12 @@
+-- The index's test is asked where one is due, and nothing elsewhere.
+use Rattle.sff_format.specs.FileTest.{index_test}
+use Rattle.sff_file.proofs.Sections.{due}
+use Rattle.sff_file.proofs.inner.index_test.Goals as goal
+
+pub returns-then-index_due : goal.returns-then-index_due
+unfolding index_test
+returns-then-index_due c = rw (due c.index_due.ensures c.if-index_due.true) c.pass_test.ensures
+
+pub returns : goal.returns
+unfolding index_test
+returns c = rw (due c.index_due.ensures c.if-index_due.false)

@@ -1,0 +1,138 @@
+// A file with its header's fields, each read once. Apart from the tests, whose words speak of it.
+ghost use Rattle.std.specs.Prelude.{◌≡◌, ◌+◌, ◌≤◌, ◌<◌, length};
+ghost use Rattle.octets.specs.Parts.{whole_part};
+ghost use Rattle.sff_format.specs.Rules.{declared, index_size};
+ghost use Rattle.sff_format.specs.HeaderTest.{index_offset, index_length, read_count, header_length, key_length, flows, characters_end};
+
+use octets::inner::{get16, get32, get64};
+use octets::whole_part;
+use std::marker::Model;
+
+// A file that has the header's 31 bytes, and the fields of its header that differ from file to file, each in the width
+// that it has there. A contract sees the file's bytes alone.
+#[derive(Drop)]
+pub struct HeadedFile<'a> {
+    bytes: &'a [u8],
+    index_offset: usize,
+    index_length: u32,
+    reads: u32,
+    length: u16,
+    key_length: u16,
+    flows: u16,
+}
+
+impl<'a> Model for HeadedFile<'a> {
+    ghost use Rattle.std.specs.Prelude.{ℕ, List};
+    ghost use Rattle.sff_header.specs.Header.{FieldsRead};
+
+    ghost Value = { List ℕ };
+
+    ghost view = { λ file. file.bytes.now };
+
+    ghost invariant = { FieldsRead };
+}
+
+impl<'a> HeadedFile<'a> {
+    pub fn new(bytes: &'a [u8]) -> HeadedFile<'a>
+        requires { 31 ≤ length bytes.now }
+        ensures { result ≡ bytes.now }
+    {
+        HeadedFile {
+            bytes,
+            index_offset: get64(bytes, 8),
+            index_length: get32(bytes, 16) as u32,
+            reads: get32(bytes, 20) as u32,
+            length: get16(bytes, 24) as u16,
+            key_length: get16(bytes, 26) as u16,
+            flows: get16(bytes, 28) as u16,
+        }
+    }
+
+    pub fn bytes(&self) -> &'a [u8]
+        ensures value { result.now ≡ self.now }
+        ensures long { 31 ≤ length result.now }
+    {
+        self.bytes
+    }
+
+    pub fn index_offset(&self) -> usize
+        ensures { result ≡ index_offset self.now }
+    {
+        self.index_offset
+    }
+
+    pub fn index_length(&self) -> usize
+        ensures { (result ≡ index_length self.now) × (result < 4294967296) }
+    {
+        self.index_length as usize
+    }
+
+    pub fn reads(&self) -> usize
+        ensures { (result ≡ read_count self.now) × (result < 4294967296) }
+    {
+        self.reads as usize
+    }
+
+    pub fn length(&self) -> usize
+        ensures { (result ≡ header_length self.now) × (result < 65536) }
+    {
+        self.length as usize
+    }
+
+    pub fn key_length(&self) -> usize
+        ensures { (result ≡ key_length self.now) × (result < 65536) }
+    {
+        self.key_length as usize
+    }
+
+    pub fn flows(&self) -> usize
+        ensures { (result ≡ flows self.now) × (result < 65536) }
+    {
+        self.flows as usize
+    }
+
+    // 31+F+K: where flow and key characters end.
+    pub(crate) fn characters_end(&self) -> usize
+        ensures { (result ≡ characters_end self.now) × (result < 131103) }
+    {
+        31 + self.flows() + self.key_length()
+    }
+
+    // The flow characters, none where they do not all lie in the file.
+    pub fn flow_characters(&self) -> &'a [u8]
+        ensures { result.now ≡ whole_part 31 (flows self.now) self.now }
+    {
+        whole_part(self.bytes(), 31, self.flows())
+    }
+
+    // The key characters likewise.
+    pub fn key(&self) -> &'a [u8]
+        ensures { result.now ≡ whole_part (31 + flows self.now) (key_length self.now) self.now }
+    {
+        whole_part(self.bytes(), 31 + self.flows(), self.key_length())
+    }
+
+    // Whether the header's two index fields say that there is an index.
+    pub fn has_index(&self) -> bool
+        ensures { result ≡ declared (index_offset self.now) (index_length self.now) }
+    {
+        is_declared(self.index_offset(), self.index_length())
+    }
+
+    // The room that an index of the stated length occupies. A place in the file and this size have a sum.
+    #[tactic(auto, unfolding(sff_format::specs::Rules::index_size))]
+    pub fn index_size(&self) -> usize
+        ensures value { result ≡ index_size (index_length self.now) }
+        ensures fits { length self.now + result < 18446744073709551616 }
+    {
+        self.index_length as usize
+    }
+}
+
+// Whether an index of this offset and length is there.
+#[tactic(auto, unfolding(sff_format::specs::Rules::declared))]
+pub(crate) fn is_declared(offset: usize, index_length: usize) -> bool
+    ensures { result ≡ declared offset index_length }
+{
+    !((offset == 0) & (index_length == 0))
+}

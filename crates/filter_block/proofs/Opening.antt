@@ -8,7 +8,6 @@ use Rattle.octets.specs.Parts.{part, put_at}
 use Rattle.octets.proofs.Lists.{put_nil, length_part}
 use Rattle.filter_format.specs.declared.Filter.{Filter}
 use Rattle.filter_format.specs.declared.Filter.TheVariants.{Raw, Delta, Narrow, Follow, Other}
-use Rattle.filter_format.specs.Units.{IsWidth}
 use Rattle.filter_format.specs.Delta.{undelta_bytes}
 use Rattle.filter_format.specs.Narrow.{widen, lacking}
 use Rattle.filter_format.specs.Follow.{unfollowed}

@@ -14,8 +14,8 @@ use filter_delta::inner::put_undelta;
 use filter_follow::inner::put_unfollowed;
 use filter_format::Filter;
 use filter_narrow::inner::{count_units, put_widened};
-use octets::inner::first_not;
 use octets::ByteTest;
+use octets::inner::first_not;
 
 // What a format stands for.
 #[tactic(auto, unfolding(filter_format::specs::Block::filter_of))]

@@ -83,22 +83,22 @@ impl Cause {
 #[derive(Clone, Copy, Debug, PartialEq, Eq)]
 pub struct Refusal(pub Cause, pub usize);
 
-// The number of the refusal; 0 is accepted.
-pub fn number_of(answer: Result<(), Refusal>) -> u64
+// The number of what a call answers; 0 is accepted.
+pub fn number_of<T: Copy>(answer: Result<T, Refusal>) -> u64
     ensures { result ≡ number_of (answer_of answer) }
 {
     match answer {
-        Ok(()) => 0,
+        Ok(_) => 0,
         Err(Refusal(cause, _)) => cause.number(),
     }
 }
 
 // The byte place, 0 where none is stated.
-pub fn place_of(answer: Result<(), Refusal>) -> u64
+pub fn place_of<T: Copy>(answer: Result<T, Refusal>) -> u64
     ensures { result ≡ place_of (answer_of answer) }
 {
     match answer {
-        Ok(()) => 0,
+        Ok(_) => 0,
         Err(Refusal(_, place)) => place as u64,
     }
 }

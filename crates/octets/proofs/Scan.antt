@@ -1,15 +1,14 @@
 -- The laws of `first_not`, over the test: what each turn of a scan that goes up shows. Assumes nothing.
-use mathlib.Core.Path.{◌≡◌, sym, ◌∙◌}
-use mathlib.Core.Bool.{Bool, true, false, not}
+use mathlib.Core.Path.{◌≡◌, sym, ap, ◌∙◌}
+use mathlib.Core.Bool.{Bool, true, false}
 use mathlib.Core.List.{List, [], ◌∷◌}
 use Prim.Native.Nat.{ℕ, suc, ◌+◌, ◌-◌, ◌≤◌, ◌<◌}
 use native.Mathlib.Nat.{add-zero, zero-add, add_assoc}
 use native.Mathlib.Omega.{arith}
-use borrow.Author.Rules.{rules}
-use borrow.Author.Tests.{not-true, not-false}
 use lib.ListN.{length, get_or}
 use lib.Seq.{take-length}
-use Rattle.octets.proofs.Lists.{part_suc}
+use Rattle.octets.proofs.Lists.{part_suc, length_part, get_d_part}
+use Rattle.octets.specs.Parts.{part}
 use Rattle.octets.specs.Scans.{first_not, leading_count, one_more}
 
 module _ (p : ℕ → Bool) (i to : ℕ) (l : List ℕ) where
@@ -56,21 +55,26 @@ pub record Seen (p : ℕ → Bool) (from n : ℕ) (l : List ℕ) (j : ℕ) : Typ
 pub seen_start : (p : ℕ → Bool) (from n : ℕ) (l : List ℕ) → from + n ≤ length l → Seen p from n l 0
 seen_start p from n l h = record { inside = h; low = omega arith; is = rw add-zero }
 
-module _ {p : ℕ → Bool} {from n : ℕ} {l : List ℕ} {j : ℕ} (s : Seen p from n l j) where
-  -- r is what a function that tests the element there gave
-  pub seen_more : j < n → {r : Bool} → r ≡ p (get_or l (from + j) 0) → not r ≡ false → Seen p from n l (j + 1)
-  seen_more h {r} e t = record {
+-- r is what a function that tests the next element of the part gave
+module _ {p : ℕ → Bool} {from n : ℕ} {l : List ℕ} {j : ℕ} (s : Seen p from n l j) (h : j < length (part from n l)) {r : Bool} (e : r ≡ p (get_or (part from n l) j 0)) where
+  below : j < n
+  below = rw (length_part from n l s.inside) at h
+
+  tested : p (get_or l (from + j) 0) ≡ r
+  tested = ap p (sym (get_d_part from n l j below)) ∙ sym e
+
+  pub seen_more : r ≡ true → Seen p from n l (j + 1)
+  seen_more t = record {
     inside = s.inside;
-    low = omega arith;
-    is = s.is ∙ go p (from + j) (from + n) l (omega arith) s.inside (sym e ∙ not-false r t) ∙ rw (add_assoc from j 1);
+    low = omega (arith, below);
+    is = s.is ∙ go p (from + j) (from + n) l (omega (arith, below)) s.inside (tested ∙ t) ∙ rw (add_assoc from j 1);
   }
 
-  module _ {to : ℕ} (w : to ≡ from + n) where
-    pub seen_stop : j < n → {r : Bool} → r ≡ p (get_or l (from + j) 0) → not r ≡ true → (from + j ≡ first_not p from to l) × (from + j ≤ to)
-    seen_stop h {r} e f = (rw w (sym (s.is ∙ stop p (from + j) (from + n) l (omega arith) s.inside (sym e ∙ not-true r f))), omega arith)
+  pub seen_stop : r ≡ false → {to : ℕ} → to ≡ from + n → (from + j ≡ first_not p from to l) × (from + j ≤ to)
+  seen_stop f w = (rw w (sym (s.is ∙ stop p (from + j) (from + n) l (omega (arith, below)) s.inside (tested ∙ f))), omega (arith, below))
 
-    pub seen_end : n ≤ j → (to ≡ first_not p from to l) × (to ≤ to)
-    seen_end h = let e : j ≡ n = omega arith in (rw w (cc (none p (from + n) l, s.is)), omega arith)
-
--- what `search` needs for a scan's every need
-pub ruleset scan = (seen_start, seen_more, rules)
+pub seen_end : {p : ℕ → Bool} {from n : ℕ} {l : List ℕ} {j : ℕ} → Seen p from n l j → length (part from n l) ≤ j → {to : ℕ} → to ≡ from + n
+    → (to ≡ first_not p from to l) × (to ≤ to)
+seen_end {p} {from} {n} {l} {j} s h w =
+    let e : j ≡ n = omega (arith, length_part from n l s.inside) in
+    (rw w (cc (none p (from + n) l, s.is)), omega arith)

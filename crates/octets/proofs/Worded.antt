@@ -1,16 +1,16 @@
 -- The invariant of a loop that puts numbers of 2 bytes into a slice from `at` on, one number a turn. Assumes nothing.
 use mathlib.Core.Path.{◌≡◌, refl, sym, ap, ◌∙◌}
 use mathlib.Core.List.{List, [], ◌∷◌, ◌++◌, append_assoc, append-nil}
-use Prim.Native.Nat.{ℕ, ◌+◌, ◌*◌, ◌/◌, ◌%◌, ◌≤◌, ◌<◌}
+use Prim.Native.Nat.{ℕ, ◌+◌, ◌*◌, ◌≤◌, ◌<◌}
 use native.Mathlib.Numerals.{add-one}
 use native.Mathlib.Omega.{arith}
 use borrow.Author.Rules.{rules}
-use lib.ListN.{length, take, set, get_or, length-set}
+use lib.ListN.{length, take, get_or}
 use lib.Seq.{take-suc, take_all, length-take-le}
 use Rattle.octets.specs.Parts.{put_at}
 use Rattle.octets.specs.Numbers.{bytes_of, unit_bytes, words}
-use Rattle.octets.proofs.Lists.{put_nil, put_next}
-use Rattle.octets.proofs.Digits.{put_two}
+use Rattle.octets.proofs.Lists.{put_nil, put_next, length_put}
+use Rattle.octets.proofs.Digits.{length-bytes_of}
 use Rattle.octets.proofs.Stands.{length_units}
 
 words_append : (vs ws : List ℕ) → words (vs ++ ws) ≡ words vs ++ words ws
@@ -34,17 +34,19 @@ unfolding unit_bytes
 worded_start at vs s₀ h = record { fits = h; low = omega arith; same = refl; is = sym (put_nil at s₀) }
 
 module _ {at : ℕ} {vs s₀ s : List ℕ} {j : ℕ} (w : Worded at vs s₀ s j) where
-  pub worded_more : j < length vs → (v : ℕ) → v ≡ get_or vs j 0 → Worded at vs s₀ (set (set s (at + 2 * j) (v / 256 % 256)) (at + 2 * j + 1) (v % 256)) (j + 1)
-  worded_more h v e =
+  pub worded_more : j < length vs → (v : ℕ) → v ≡ get_or vs j 0 → {t : List ℕ} → t ≡ put_at (at + 2 * j) (bytes_of 2 v) s → Worded at vs s₀ t (j + 1)
+  worded_more h v e {t} p =
       let count : length (take j vs) ≡ j = length-take-le j vs (omega arith) in
       let len : length (words (take j vs)) ≡ 2 * j = length_units 2 (take j vs) ∙ ap (λ (n : ℕ). 2 * n) count in
       let next : words (take (j + 1) vs) ≡ words (take j vs) ++ bytes_of 2 v =
       rw (add-one, take-suc vs j 0, words_append, words_one, e) in
+      let put : t ≡ put_at at (words (take (j + 1) vs)) s₀ =
+      p ∙ rw (next, w.is) (put_next at (2 * j) (words (take j vs)) (bytes_of 2 v) s₀ len (omega arith)) in
       record {
         fits = w.fits;
         low = omega arith;
-        same = simp length-set w.same;
-        is = put_two s (at + 2 * j) v (omega arith) ∙ rw (next, w.is) (put_next at (2 * j) (words (take j vs)) (bytes_of 2 v) s₀ len (omega arith));
+        same = rw p (length_put (at + 2 * j) (bytes_of 2 v) s (rw length-bytes_of (omega arith)) ∙ w.same);
+        is = put;
       }
 
   pub worded_done : length vs ≤ j → s ≡ put_at at (words vs) s₀

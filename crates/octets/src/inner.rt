@@ -1,10 +1,10 @@
 // For the crates above, which have measured the bytes: hence each `requires`.
-ghost use Rattle.std.specs.Prelude.{◌≡◌, ◌+◌, ◌≤◌, ◌<◌, length};
+ghost use Rattle.std.specs.Prelude.{◌≡◌, ◌+◌, ◌≤◌, ◌<◌, ◌^◌, length};
 ghost use Rattle.octets.specs.Parts.{part, same, up8};
 ghost use Rattle.octets.specs.Numbers.{number};
 ghost use Rattle.octets.specs.Scans.{first_not, passes};
 
-use crate::{ByteTest, passes_test, wide};
+use crate::ByteTest;
 
 // The next multiple of 8, or n itself.
 pub fn up8(n: usize) -> usize
@@ -14,10 +14,16 @@ pub fn up8(n: usize) -> usize
     (n + 7) / 8 * 8
 }
 
-fn wide32(x: u8) -> u32
-    ensures { (result ≡ x) × (result < 256) }
+// The number of N bytes at `at`, the most significant first. Each N makes one load of it.
+fn get_number<const N: usize>(bytes: &[u8], at: usize) -> usize
+    requires { (N ≤ 8) × (at + N ≤ length bytes.now) }
+    ensures { (result ≡ number N at bytes.now) × (result < 256 ^ N) }
 {
-    x as u32
+    let mut number = 0;
+    for x in &bytes[at..at + N] {
+        number = number * 256 + usize::from(*x);
+    }
+    number
 }
 
 // The number of two bytes at `at`.
@@ -25,18 +31,7 @@ pub fn get16(bytes: &[u8], at: usize) -> usize
     requires { at + 2 ≤ length bytes.now }
     ensures { (result ≡ number 2 at bytes.now) × (result < 65536) }
 {
-    wide(bytes[at]) * 256 + wide(bytes[at + 1])
-}
-
-// The number of four bytes at `at`. This sum of 32 bits becomes one load; one of `get16`s does not.
-fn four(bytes: &[u8], at: usize) -> u32
-    requires { at + 4 ≤ length bytes.now }
-    ensures { (result ≡ number 4 at bytes.now) × (result < 4294967296) }
-{
-    wide32(bytes[at]) * 16777216
-        + wide32(bytes[at + 1]) * 65536
-        + wide32(bytes[at + 2]) * 256
-        + wide32(bytes[at + 3])
+    get_number::<2>(bytes, at)
 }
 
 // The number of four bytes at `at`.
@@ -44,7 +39,7 @@ pub fn get32(bytes: &[u8], at: usize) -> usize
     requires { at + 4 ≤ length bytes.now }
     ensures { (result ≡ number 4 at bytes.now) × (result < 4294967296) }
 {
-    four(bytes, at) as usize
+    get_number::<4>(bytes, at)
 }
 
 // The number of eight bytes at `at`.
@@ -52,7 +47,7 @@ pub fn get64(bytes: &[u8], at: usize) -> usize
     requires { at + 8 ≤ length bytes.now }
     ensures { result ≡ number 8 at bytes.now }
 {
-    get32(bytes, at) * 4294967296 + get32(bytes, at + 4)
+    get_number::<8>(bytes, at)
 }
 
 // Whether the n bytes of `bytes` from `at` on are those of `other` from `from` on.
@@ -60,31 +55,18 @@ pub fn same_part(bytes: &[u8], at: usize, other: &[u8], from: usize, n: usize) -
     requires { (at + n ≤ length bytes.now) × (from + n ≤ length other.now) }
     ensures { result ≡ same (part at n bytes.now) (part from n other.now) }
 {
-    let mut j = 0;
-    while j < n {
-        if bytes[at + j] != other[from + j] {
-            return false;
-        }
-        j += 1;
-    }
-    true
+    bytes[at..at + n] == other[from..from + n]
 }
 
-// The first place from `from` on, before `to`, whose byte fails the test, or `to`. The loop counts to the number of
-// bytes: over the two places the compiler would compute that number again.
+// The first place from `from` on, before `to`, whose byte fails the test, or `to`.
 pub fn first_not(test: ByteTest, bytes: &[u8], from: usize, to: usize) -> usize
     requires { (from ≤ to) × (to ≤ length bytes.now) }
     ensures { (result ≡ first_not (passes test) from to bytes.now) × (result ≤ to) }
 {
-    let n = to - from;
-    let mut j = 0;
-    loop {
-        if j >= n {
-            break to;
+    for (j, x) in bytes[from..to].iter().enumerate() {
+        if !test.passes(*x) {
+            return from + j;
         }
-        if !passes_test(test, bytes[from + j]) {
-            break from + j;
-        }
-        j += 1;
     }
+    to
 }

@@ -16,11 +16,24 @@ pub enum ByteTest {
     Zero,
 }
 
+impl ByteTest {
+    // Whether the byte x passes.
+    fn passes(self, x: u8) -> bool
+        ensures { result ≡ passes self x }
+    {
+        match self {
+            ByteTest::FlowCharacter => ((x == 65) | (x == 67)) | ((x == 71) | (x == 84)),
+            ByteTest::NameByte => (33 <= x) & (x <= 126),
+            ByteTest::Zero => x == 0,
+        }
+    }
+}
+
 // The byte x as a number, whose promise says that it is below 256.
 pub fn wide(x: u8) -> usize
     ensures { (result ≡ x) × (result < 256) }
 {
-    x as usize
+    usize::from(x)
 }
 
 // The least of two numbers.
@@ -60,30 +73,16 @@ pub fn whole_part(bytes: &[u8], at: usize, n: usize) -> &[u8]
     if n > bytes.len() - at {
         return &bytes[..0];
     }
-    let end = at + n;
-    &bytes[at..end]
-}
-
-fn passes_test(test: ByteTest, x: u8) -> bool
-    ensures { result ≡ passes test x }
-{
-    match test {
-        ByteTest::FlowCharacter => ((x == 65) | (x == 67)) | ((x == 71) | (x == 84)),
-        ByteTest::NameByte => (33 <= x) & (x <= 126),
-        ByteTest::Zero => x == 0,
-    }
+    &bytes[at..at + n]
 }
 
 // Whether some byte fails the test. No turn leaves the loop: so the compiler tests many bytes at a time.
 pub fn fails(test: ByteTest, bytes: &[u8]) -> bool
     ensures { result ≡ fails (passes test) bytes.now }
 {
-    let n = bytes.len();
     let mut failed = false;
-    let mut j = 0;
-    while j < n {
-        failed = failed | !passes_test(test, bytes[j]);
-        j += 1;
+    for x in bytes {
+        failed |= !test.passes(*x);
     }
     failed
 }

@@ -1,5 +1,6 @@
 -- The walk's test, and the code's loops over it; how long layouts are.
 pub mod Bases
+pub mod Loops
 pub mod Sizes
 -- The header, a read, an index, a boundary: accepted, it is the layout of what it says; laid out, it is accepted and
 -- read back.

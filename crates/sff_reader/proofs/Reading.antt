@@ -1,77 +1,55 @@
 -- A step: its tests by what the code's calls gave, and what is answered where they accept. Assumes nothing.
 use Prim.Native.Nat.{ℕ, ◌+◌, ◌≤◌, ◌<◌}
-use mathlib.Core.Path.{◌≡◌, sym, ◌∙◌}
-use mathlib.Core.Bool.{Bool, true, false}
+use mathlib.Core.Path.{◌≡◌, sym}
+use mathlib.Core.Bool.{Bool}
 use mathlib.Core.List.{List}
-use borrow.Author.Rules.{rules}
 use borrow.Author.Tests.{lt-ltb, le-ltb}
-use lib.Dec.{ltb}
 use lib.ListN.{length}
-use Rattle.octets.specs.Parts.{part}
-use Rattle.answers.specs.Answer.{Answer, Accepted, Refused, when, ◌then◌}
+use native.Mathlib.Omega.{arith}
+use Rattle.std.specs.Prelude.{Result, Ok, Err}
+use Rattle.std.specs.Result.{IsErr, IsErrAnd}
+use Rattle.octets.specs.Numbers.{Bytes}
+use Rattle.octets.proofs.Stands.{number_small}
+use Rattle.answers.specs.declared.Refusal.{Refusal}
+use Rattle.answers.specs.Causes.{number}
+use Rattle.answers.specs.Answer.{Answer, Accepted, Refused, ◌then◌}
 use Rattle.sff_format.specs.declared.Boundary.{Boundary}
 use Rattle.sff_format.specs.declared.ReadView.{ReadView}
-use Rattle.sff_format.specs.HeaderTest.{header_test, flow_characters}
+use Rattle.sff_format.specs.HeaderTest.{header_test, header_length, read_count, flows, flow_characters}
 use Rattle.sff_format.specs.ReadTest.{read_test}
-use Rattle.sff_format.specs.FileTest.{index_due, pass_test, index_test, end_test}
+use Rattle.sff_format.specs.FileTest.{end_test}
 use Rattle.sff_format.specs.Walk.{read_start, next_boundary}
 use Rattle.sff_format.specs.Step.{State, fresh_place, step_test, read_or_none, boundary, found, stop, step}
 use Rattle.sff_format.specs.View.{view_at}
-use Rattle.sff_format.proofs.HeaderLaws.{fits_31}
 use Rattle.sff_format.proofs.ReadLaid.{fits_16}
-use Rattle.sff_format.proofs.Boundaries.{no_test, pass_test_lem}
-use Rattle.sff_format.proofs.Steps.{past_fits, header_accepted, place_inside, one_left, read-accepted, step-found, step-stop}
-use Rattle.sff_header.specs.declared.Header.{Header}
-use Rattle.sff_header.specs.Header.{header_of}
-use Rattle.sff_header.proofs.Fields.{reads_of, length_of, flows_of}
-use Rattle.sff_file.proofs.Sections.{due_is}
+use Rattle.sff_format.proofs.Steps.{read-accepted, step-found, step-stop}
+use Rattle.sff_reader.specs.declared.Reader.{Reader}
+use Rattle.sff_reader.specs.declared.Found.{Found}
+use Rattle.sff_reader.specs.Forms.{state_of, step_of}
 
--- where a fresh reader stands, by what the header's test answered
-module _ (b : List ℕ) {x : Answer} (t : x ≡ header_test b) where
-  pub fresh_refused : {n p : ℕ} → x ≡ Refused n p → 0 ≡ fresh_place (header_test b) b
+module _ (b : List ℕ) where
+  -- where a fresh reader stands, by what the header's test answered
+  pub fresh_refused : {n p : ℕ} → Refused n p ≡ header_test b → 0 ≡ fresh_place (header_test b) b
   unfolding fresh_place
-  fresh_refused r = rw (← t, r)
+  fresh_refused r = rw (← r)
 
-  pub fresh-accepted : x ≡ Accepted → {h : Header} → h ≡ header_of b → h.length ≡ fresh_place (header_test b) b
+  pub fresh-accepted : Accepted ≡ header_test b → {n : ℕ} → n ≡ header_length b → n ≡ fresh_place (header_test b) b
   unfolding fresh_place
-  fresh-accepted a {h} e = rw (← t, a) (sym (length_of h b e))
+  fresh-accepted a e = rw (← a) e
 
--- what the code asks of the header's fields, said of the file
-module _ (b : List ℕ) {h : Header} (e : h ≡ header_of b) where
-  -- r is whether the index is due
-  module _ (p : ℕ) (q : Bool) {r : Bool} (d : r ≡ index_due h.index_offset h.index_length p q) where
-    pub index_due_lem : r ≡ true → {x : Answer} → x ≡ pass_test b p → x ≡ index_test b p q
-    index_due_lem f g = g ∙ sym (pass_test_lem b p q (due_is b e p q d f))
-
-    pub index_not_due : r ≡ false → Accepted ≡ index_test b p q
-    index_not_due f = sym (no_test b p q (due_is b e p q d f))
-
-  module _ (p n : ℕ) (q : Bool) where
-    pub read_left : n < h.reads → {x : Answer} → x ≡ read_test (part 31 h.flows b) b p → x ≡ read_or_none b p n q
+  -- a read, or the end
+  module _ (p n : ℕ) (q : Bool) {k : ℕ} (r : k ≡ read_count b) where
+    pub read_left : n < k → {x : Answer} → x ≡ read_test (flow_characters b) b p → x ≡ read_or_none b p n q
     unfolding read_or_none
-    read_left l f = rw (reads_of h b e, flows_of h b e, lt-ltb n h.reads l) f
+    read_left l f = rw (← r, lt-ltb n k l) f
 
-    pub none_left : h.reads ≤ n → {x : Answer} → x ≡ (end_test b p q then Refused 33 p) → x ≡ read_or_none b p n q
+    pub none_left : k ≤ n → {x : Answer} → x ≡ (end_test b p q then Refused 33 p) → x ≡ read_or_none b p n q
     unfolding read_or_none
-    none_left l f = rw (reads_of h b e, le-ltb n h.reads l) f
+    none_left l f = rw (← r, le-ltb n k l) f
 
--- past an index that is not cut short a read starts within the file
-pub start-inside : (b : List ℕ) (p : ℕ) (q : Bool) → p ≤ length b
-    → {a : Answer} → a ≡ index_test b p q → a ≡ Accepted
-    → {start : Boundary} → start ≡ read_start b (record { place = p; passed = q }) → start.place ≤ length b
-start-inside b p q l t a g = rw g (past_fits b p q l (sym t ∙ a))
-
--- a step's tests over the boundary past any index, as the code has it
-pub step-tested : (b : List ℕ) (s : State)
-    → {start : Boundary} → start ≡ read_start b (record { place = s.place; passed = s.passed_index })
-    → {x : Answer} → x ≡
-    (header_test b
-    then when (ltb (length b) s.place) 1 s.place
-    then index_test b s.place s.passed_index
-    then read_or_none b start.place s.passed_reads start.passed)
-    → x ≡ step_test b s
-unfolding step_test
-step-tested b s g f = rw g at f
+-- the header's field for the number of reads has 32 bits
+pub reads_small : (b : List ℕ) → Bytes b → 31 ≤ length b → read_count b < 4294967296
+reads_small b y h = number_small 4 20 b y (omega arith)
 
 -- where a step's tests accept, its read begins past any index, and what the code made of it is what the step says
 module _
@@ -83,19 +61,16 @@ module _
   pub found_begins : start.place + 16 ≤ length b
   found_begins = rw g (fits_16 (flow_characters b) b (boundary b s) (read-accepted b s e))
 
-  pub found_is : {h : Header} → h ≡ header_of b
-      → {after : Boundary} → after ≡ next_boundary b start
-      → {v : ReadView} → v ≡ view_at h.flows b start.place
+  pub found_is : {after : Boundary} → after ≡ next_boundary b start
+      → {v : ReadView} → v ≡ view_at (flows b) b start.place
       → found v (record { place = after.place; passed_reads = s.passed_reads + 1; passed_index = after.passed }) ≡ step b s
-  found_is {h} f k i = rw (i, k, g, ← (flows_of h b f)) (sym (step-found b s e))
+  found_is k i = rw (i, k, g) (sym (step-found b s e))
 
 -- where they refuse, the state is given back
-pub stopped_is : (b : List ℕ) (s : State) {x : Answer} → x ≡ step_test b s → {n p : ℕ} → x ≡ Refused n p → stop n p s ≡ step b s
-stopped_is b s e {n} {p} f = sym (step-stop b s n p (sym e ∙ f))
+pub handed_over : (reader : Reader) (r : Result Found Refusal) (e : Refusal)
+    → IsErr r × IsErrAnd r (λ x. x ≡ e) → step_of reader r ≡ stop (number e.0) e.1 (state_of reader)
+handed_over reader (Ok x) e (h, k) = absurd k
+handed_over reader (Err x) e (h, k) = rw k
 
--- what is left to read of an accepted step, by the header's fields
-pub some_left : (b : List ℕ) (s : State) → step_test b s ≡ Accepted → {h : Header} → h ≡ header_of b → s.passed_reads < h.reads
-some_left b s e {h} f = rw (← reads_of h b f) (one_left b s e)
-
--- what `search` needs where a step's tests accepted
-pub ruleset finding = (fits_31, header_accepted, place_inside, found_begins, rules)
+pub stopped_is : (b : List ℕ) (s : State) {n p : ℕ} → Refused n p ≡ step_test b s → stop n p s ≡ step b s
+stopped_is b s {n} {p} e = sym (step-stop b s n p (sym e))

@@ -2,6 +2,7 @@
 use Rattle.std.specs.Prelude.{Result, Ok, Err}
 use Rattle.answers.specs.declared.Refusal.{Refusal}
 use Rattle.answers.specs.Causes.{number}
+use Rattle.sff_format.specs.declared.Boundary.{Boundary}
 use Rattle.sff_format.specs.Step.{State, Step, found, stop}
 use Rattle.sff_reader.specs.declared.Reader.{Reader}
 use Rattle.sff_reader.specs.declared.Found.{Found}
@@ -12,6 +13,9 @@ state_of reader = record {
   passed_reads = reader.passed_reads;
   passed_index = reader.passed_index;
 }
+
+abbrev pub boundary_of : Reader → Boundary
+boundary_of reader = record { place = reader.place; passed = reader.passed_index }
 
 abbrev pub found_of : Found → Step
 found_of read = found read.view (state_of read.next)

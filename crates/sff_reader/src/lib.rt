@@ -6,7 +6,7 @@ ghost use Rattle.std.specs.Prelude.{◌≡◌, ◌+◌, ◌≤◌, ◌<◌, leng
 ghost use Rattle.answers.specs.Answer.{Accepted, answer_of};
 ghost use Rattle.sff_format.specs.HeaderTest.{header_test};
 ghost use Rattle.sff_format.specs.Step.{fresh, fresh_place, step, step_test, read_or_none};
-ghost use Rattle.sff_reader.specs.Forms.{state_of, found_of, step_of};
+ghost use Rattle.sff_reader.specs.Forms.{state_of, boundary_of, found_of, step_of};
 
 use answers::{Cause, Refusal};
 use sff_file::inner::{end_test, index_test, next_boundary, past_index, view_at};
@@ -56,7 +56,7 @@ fn step_test(file: &[u8], reader: Reader) -> Result<(), Refusal>
 }
 
 // The read that a step found, and the reader after it.
-fn found(file: &[u8], reader: Reader) -> Found
+fn read_found(file: &[u8], reader: Reader) -> Found
     requires { step_test file.now (state_of reader) ≡ Accepted }
     ensures { found_of result ≡ step file.now (state_of reader) }
 {
@@ -76,7 +76,7 @@ fn found(file: &[u8], reader: Reader) -> Found
 
 impl Reader {
     fn boundary(self) -> Boundary
-        ensures { (result.place ≡ self.place) × (result.passed ≡ self.passed_index) }
+        ensures { result ≡ boundary_of self }
     {
         Boundary {
             place: self.place,
@@ -100,7 +100,7 @@ impl Reader {
         ensures { step_of self result ≡ step file.now (state_of self) }
     {
         step_test(file, self)?;
-        Ok(found(file, self))
+        Ok(read_found(file, self))
     }
 }
 

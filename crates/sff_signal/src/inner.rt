@@ -32,13 +32,11 @@ fn add_up(file: &[u8], at: usize, flows: usize) -> Totals
     let mut most = first;
     let mut least = first;
     let mut sum = first;
-    let mut i = 1;
-    while i < flows {
+    for i in 1..flows {
         let x = value(file, at + 2 * i);
         most = greatest32(most, x);
         least = least32(least, x);
         sum += x;
-        i += 1;
     }
     Totals { most, least, sum }
 }
@@ -46,7 +44,7 @@ fn add_up(file: &[u8], at: usize, flows: usize) -> Totals
 fn ratio(n: u32, d: u32) -> f64
     ensures { result ≡ quotient n d }
 {
-    (n as f64) / (d as f64)
+    f64::from(n) / f64::from(d)
 }
 
 // The summary of the values at `at`, one for each flow.

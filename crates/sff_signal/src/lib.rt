@@ -38,13 +38,13 @@ pub fn signal_test(file: &[u8], position: usize) -> Result<(), Refusal>
 pub fn signal(file: &[u8], position: usize) -> Summary
     ensures { result ≡ file_signal file.now position }
 {
-    if signal_test(file, position).is_err() {
+    let Ok(()) = signal_test(file, position) else {
         return Summary {
             strongest: 0.0,
             weakest: 0.0,
             mean: 0.0,
         };
-    }
+    };
     let values = view_of(file, position).values;
     values_summary(file, values.at, values.size / 2)
 }

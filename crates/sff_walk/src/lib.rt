@@ -17,6 +17,15 @@ pub struct BasePosition(pub usize);
 #[derive(Clone, Copy)]
 pub struct FlowPosition(pub usize);
 
+impl BasePosition {
+    fn next(self) -> Self
+        requires { self.0 < 4294967296 }
+        ensures { result.0 ≡ self.0 + 1 }
+    {
+        BasePosition(self.0 + 1)
+    }
+}
+
 impl FlowPosition {
     // The flow position of the next base: index bytes are increments.
     fn after(self, increment: u8) -> Self

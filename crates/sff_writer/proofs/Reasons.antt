@@ -4,33 +4,29 @@ use mathlib.Core.Path.{◌≡◌, sym, ◌∙◌}
 use mathlib.Core.Bool.{Bool, true, false, ◌||◌}
 use mathlib.Core.List.{List}
 use native.Mathlib.Omega.{arith}
-use lib.Dec.{ltb, eqb}
+use lib.Dec.{ltb}
 use lib.ListN.{length, take, drop, length-take}
 use lib.Seq.{length-take-le}
 use borrow.Author.Tests.{lt-ltb, le-ltb}
 use Rattle.std.specs.Prelude.{Result, Ok, Err}
 use Rattle.std.specs.Result.{MatchResult, IsErr, IsErrAnd}
-use Rattle.octets.specs.Parts.{part, put_at, up8}
+use Rattle.octets.specs.Parts.{whole_part, put_at, up8}
 use Rattle.octets.specs.Numbers.{Bytes, number, bytes_of}
-use Rattle.octets.proofs.Lists.{part-take}
+use Rattle.octets.proofs.Lists.{part-take, whole_in}
 use Rattle.octets.proofs.AllBytes.{bytes_take}
 use Rattle.octets.proofs.Stands.{number_small}
 use Rattle.answers.specs.declared.Refusal.{Refusal}
 use Rattle.answers.specs.Causes.{number as number_of_cause}
 use Rattle.answers.specs.Answer.{Answer, Accepted, Refused, answer_of, when, zero_place, ◌then◌, accepted_or}
 use Rattle.sff_format.specs.Model.{Read, layout_read, layout}
-use Rattle.sff_format.specs.Rules.{declared}
 use Rattle.sff_format.specs.HeaderTest.{read_count, flows, flow_characters}
 use Rattle.sff_format.specs.FileTest.{file_test}
 use Rattle.sff_format.specs.Writing.{outcome_of, new_file, new_test, new_outcome, new_buffer, given_test, open_test, append_test, append_outcome, append_buffer}
 use Rattle.answers.proofs.Answers.{first-ok, second-ok, when-ok, under_ok}
-use Rattle.sff_format.proofs.HeaderLaws.{fits_31}
+use Rattle.sff_format.proofs.HeaderLaws.{fits_31, characters-length}
 use Rattle.sff_format.proofs.FileLaid.{head_ok}
 use Rattle.sff_format.proofs.Given.{counts_ok}
 use Rattle.sff_format.proofs.Appends.{Carried, carried}
-use Rattle.sff_header.specs.declared.Header.{Header}
-use Rattle.sff_header.specs.Header.{header_of}
-use Rattle.sff_header.proofs.Fields.{offset_of, index_length_of, reads_of, flows_of}
 use Rattle.sff_file.proofs.Sections.{characters_fit}
 use Rattle.sff_sections.specs.Sections.{read_size}
 use Rattle.sff_sections.proofs.Sections.{length-read, length-new}
@@ -92,13 +88,7 @@ module _ (buffer fs ks : List ℕ) where
     unfolding new_buffer accepted_or
     new-buffer b = b ∙ rw (← e)
 
--- the reasons that a file gives against any read, over its header's fields as they were read
-pub open_tested : (b : List ℕ) {h : Header} → h ≡ header_of b → {x : Answer}
-    → x ≡ (file_test b then when (declared h.index_offset h.index_length) 25 0 then when (eqb h.reads 4294967295) 31 0) → x ≡ open_test b
-unfolding open_test
-open_tested b {h} e f = rw (offset_of h b e, index_length_of h b e, reads_of h b e) f
-
--- a file that takes another read has the header's bytes, and its flow characters lie where the code takes them from
+-- a file that takes another read has the header's bytes, and its flow characters as they are handed out are few
 module _ (b : List ℕ) (e : Accepted ≡ open_test b) where
   open_accepted : file_test b ≡ Accepted
   unfolding open_test
@@ -107,8 +97,15 @@ module _ (b : List ℕ) (e : Accepted ≡ open_test b) where
   pub open_header : 31 ≤ length b
   open_header = fits_31 b (head_ok b open_accepted)
 
-  pub open_characters : {h : Header} → h ≡ header_of b → 31 + h.flows ≤ length b
-  open_characters {h} f = omega (arith, flows_of h b f, characters_fit b (head_ok b open_accepted))
+  module _ {characters : List ℕ} (f : characters ≡ whole_part 31 (flows b) b) where
+    pub open_characters : characters ≡ flow_characters b
+    open_characters = f ∙ whole_in 31 (flows b) b (characters_fit b (head_ok b open_accepted))
+
+    pub open_few : Bytes b → length characters < 65536
+    open_few y =
+        let h = open_header in
+        let n : length (flow_characters b) ≡ flows b = characters-length b (head_ok b open_accepted) in
+        rw (open_characters, n) (number_small 2 28 b y (omega arith))
 
 -- what a read that is not refused shows
 module _ (characters : List ℕ) (r : Read) (e : Accepted ≡ given_test characters r) where
@@ -127,15 +124,16 @@ module _ (characters : List ℕ) (r : Read) (e : Accepted ≡ given_test charact
   pub given_size : length (layout_read r) ≡ read_size r
   given_size = let k = given_counts in length-read r k.1 k.2
 
--- all reasons, over the header's fields as they were read
-pub append-tested : (buffer : List ℕ) (len : ℕ) (r : Read) {h : Header} → h ≡ header_of (take len buffer) → {x : Answer} → x ≡
+-- all reasons, over the flow characters as they are handed out
+pub append-tested : (buffer : List ℕ) (len : ℕ) (r : Read) → Accepted ≡ open_test (take len buffer)
+    → {characters : List ℕ} → characters ≡ whole_part 31 (flows (take len buffer)) (take len buffer) → {x : Answer} → x ≡
     (when (ltb (length buffer) len) 14 0
     then open_test (take len buffer)
-    then given_test (part 31 (31 + h.flows - 31) (take len buffer)) r
+    then given_test characters r
     then when (ltb (length buffer) (len + length (layout_read r))) 26 0)
     → x ≡ append_test buffer len r
 unfolding append_test
-append-tested buffer len r {h} e f = let g : flows (take len buffer) ≡ 31 + h.flows - 31 = omega (arith, flows_of h (take len buffer) e) in rw g f
+append-tested buffer len r o f g = rw (open_characters (take len buffer) o f) at g
 
 -- a read's size z, once it is not refused
 module _ (room len : ℕ) (r : Read) (characters : List ℕ) (e : Accepted ≡ given_test characters r) {z : ℕ} (f : z ≡ read_size r) where

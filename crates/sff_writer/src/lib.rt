@@ -122,8 +122,7 @@ fn append_test(buffer: &[u8], file_length: usize, read: &NewRead) -> Result<(), 
     }
     let file = &buffer[..file_length];
     open_test(file)?;
-    let flows = header_fields(file).flows;
-    given_test(&file[31..31 + flows], read)?;
+    given_test(HeadedFile::new(file).flow_characters(), read)?;
     if buffer.len() - file_length < read.size() {
         return Err(Refusal(Cause::NoRoom, 0));
     }

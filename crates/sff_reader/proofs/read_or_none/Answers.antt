@@ -1,18 +1,28 @@
 -- With a read left it is tested; with none the end is, and where that is accepted the answer is 33.
-use Rattle.answers.proofs.Chains.{refuses, accepts}
-use Rattle.sff_file.proofs.Sections.{fields_fit}
+use Rattle.answers.proofs.Chains.{handed_on, handed_back, returned}
+use Rattle.sff_file.proofs.Sections.{characters_fit}
 use Rattle.sff_reader.proofs.Reading.{read_left, none_left}
-use Rattle.std.proofs.Common.{rules}
 use Rattle.sff_reader.proofs.read_or_none.Goals as goal
 
 pub read_test-requires : goal.read_test-requires
-read_test-requires c = search (fields_fit, rules)
+read_test-requires c =
+    rw c.bytes.ensures.value (
+      c.requires.place_in_bounds,
+      c.flows.ensures.1,
+      rw c.flows.ensures.0 (characters_fit _ c.requires.file_value),
+    )
 
-pub returns-then-reads-header : goal.returns-then-reads-header
-returns-then-reads-header c = search read_left
+pub returns-then-reads : goal.returns-then-reads
+returns-then-reads c =
+    read_left _ _ _ _ c.reads.ensures.0 c.if-reads.true
+    (rw (c.flows.ensures.0, c.bytes.ensures.value) at c.read_test.ensures)
 
-pub returns-in_default : goal.returns-in_default
-returns-in_default c = search (none_left, refuses)
+pub returns-in_err-end_test : goal.returns-in_err-end_test
+returns-in_err-end_test c =
+    none_left _ _ _ _ c.reads.ensures.0 c.if-reads.false
+    (search (handed_back, returned, c.in_err-end_test.ensures))
 
 pub returns : goal.returns
-returns c = search (none_left, accepts)
+returns c =
+    none_left _ _ _ _ c.reads.ensures.0 c.if-reads.false
+    (search (handed_on, c.in_ok-end_test.ensures))

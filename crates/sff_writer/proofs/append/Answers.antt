@@ -16,25 +16,10 @@ get32-reads-requires c =
     let f = append-fits _ _ _ c.in_ok-append_test.ensures (bytes_of_lem _ (search rules)) in
     omega arith
 
-pub put-requires-clause-in_bounds : goal.put-requires-clause-in_bounds
-put-requires-clause-in_bounds c =
+pub put-requires : goal.put-requires
+put-requires c =
     let f = append-fits _ _ _ c.in_ok-append_test.ensures (bytes_of_lem _ (search rules)) in
-    f.whole
-
-pub put-requires-clause-name_len_bound : goal.put-requires-clause-name_len_bound
-put-requires-clause-name_len_bound c =
-    let f = append-fits _ _ _ c.in_ok-append_test.ensures (bytes_of_lem _ (search rules)) in
-    f.name
-
-pub put-requires-clause-increments_len : goal.put-requires-clause-increments_len
-put-requires-clause-increments_len c =
-    let f = append-fits _ _ _ c.in_ok-append_test.ensures (bytes_of_lem _ (search rules)) in
-    f.increments
-
-pub put-requires-clause-qualities_len : goal.put-requires-clause-qualities_len
-put-requires-clause-qualities_len c =
-    let f = append-fits _ _ _ c.in_ok-append_test.ensures (bytes_of_lem _ (search rules)) in
-    f.qualities
+    record { in_bounds = f.whole; name_len_bound = f.name; increments_len = f.increments; qualities_len = f.qualities }
 
 pub put32-requires : goal.put32-requires
 put32-requires c =

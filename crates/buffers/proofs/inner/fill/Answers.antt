@@ -1,13 +1,14 @@
+-- The part that is written holds the value in each of its places, and the rest of the buffer is as it was.
 use Prim.Native.Nat.{◌-◌}
+use mathlib.Core.Path.{sym}
 use native.Mathlib.Omega.{arith}
-use lib.ListN.{replicate, length-replicate}
-use Rattle.octets.proofs.Moves.{up_start, up_more, same_value}
+use lib.ListN.{length-replicate}
+use Rattle.octets.proofs.Lists.{length_part}
+use Rattle.buffers.proofs.Written.{written}
 use Rattle.buffers.proofs.inner.fill.Goals as goal
 
-pub loop-j-init : goal.loop-j-init
-loop-j-init c = up_start _ _ _ _ (length-replicate _ _) (omega arith)
-
-pub loop-j-preserved : goal.loop-j-preserved
-loop-j-preserved c =
+pub returns : goal.returns
+returns c =
     let a = c.args in
-    up_more c.loop-j.invariant (omega arith) _ (same_value (a.to - a.from) c.loop-j.j a.value (omega arith))
+    let len = length_part a.from (a.to - a.from) a.buffer.now (omega arith) in
+    written a.from _ a.buffer.now _ _ (rw len at (c.fill.ensures.after (λ y e. e))) (sym (length-replicate _ _))

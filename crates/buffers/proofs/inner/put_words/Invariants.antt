@@ -1,11 +1,6 @@
 -- Each turn puts the two bytes of one value more, behind those of the values before it.
-use Prim.Native.Nat.{◌-◌}
-use lib.ListN.{length}
 use Rattle.octets.proofs.Worded.{Worded}
 use Rattle.buffers.proofs.inner.put_words.Given as goal
 
 abbrev pub invariant-loop-j : goal.invariant-loop-j
 invariant-loop-j l = Worded l.at l.values l.initial.buffer l.buffer l.j
-
-abbrev pub decreases-loop-j : goal.decreases-loop-j
-decreases-loop-j l = length l.values - l.j

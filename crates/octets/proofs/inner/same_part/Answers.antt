@@ -1,12 +1,13 @@
-use Prim.Native.Nat.{◌-◌}
-use Rattle.octets.proofs.Same.{comparing}
+-- The two parts hold n bytes each, and the library's equality is `same`.
+use Prim.Native.Nat.{◌+◌, ◌-◌}
+use mathlib.Core.Path.{◌≡◌, sym, ◌∙◌}
+use native.Mathlib.Omega.{arith}
+use Rattle.octets.proofs.Same.{same_pointwise}
 use Rattle.octets.proofs.inner.same_part.Goals as goal
 
-pub returns-then-bytes-at : goal.returns-then-bytes-at
-returns-then-bytes-at c = search comparing
-
-pub loop-j-preserved : goal.loop-j-preserved
-loop-j-preserved c = search comparing
-
 pub returns : goal.returns
-returns c = search comparing
+returns c =
+    let a = c.args in
+    let m : a.at + a.n - a.at ≡ a.n = omega arith in
+    let n : a.from + a.n - a.from ≡ a.n = omega arith in
+    rw (m, n) at c.eq.ensures ∙ sym (same_pointwise _ _)

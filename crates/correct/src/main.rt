@@ -4,7 +4,7 @@
 #![tactic(auto)]
 
 use correction_format::ListOutcome;
-use loading::{Loaded, argument, argument_count, file_name, load_argument, tell};
+use loading::{argument, argument_count, file_name, load_argument, tell};
 use octets::whole_part;
 use printing::print_text;
 use std::fs::{File, OpenFile};
@@ -60,13 +60,11 @@ fn deliver(
 
 fn correct(rt: &(impl Env + Files + Print + Eprint)) -> io::Result<()> {
     let mut buffer = [0u8; 65536];
-    let file = load_argument(rt, 1, &mut buffer)?;
-    let Loaded::Bytes(n) = file else {
+    let Some(n) = load_argument(rt, 1, &mut buffer)? else {
         return Ok(());
     };
     let mut list = [0u8; 65536];
-    let records = load_argument(rt, 2, &mut list)?;
-    let Loaded::Bytes(m) = records else {
+    let Some(m) = load_argument(rt, 2, &mut list)? else {
         return Ok(());
     };
     let outcome = sff_corrector::correct_list(&mut buffer, n, whole_part(&list, 0, m));

@@ -4,7 +4,7 @@
 #![tactic(auto)]
 
 use correction_format::ListOutcome;
-use loading::{Loaded, argument, argument_count, load_argument};
+use loading::{argument, argument_count, load_argument};
 use octets::whole_part;
 use printing::print_text;
 use std::io;
@@ -38,13 +38,11 @@ fn correct(
     print_argument(rt, file, b" ")?;
     print_argument(rt, records, b":\n")?;
     let mut buffer = [0u8; 65536];
-    let loaded = load_argument(rt, file, &mut buffer)?;
-    let Loaded::Bytes(n) = loaded else {
+    let Some(n) = load_argument(rt, file, &mut buffer)? else {
         return Ok(());
     };
     let mut list = [0u8; 65536];
-    let listed = load_argument(rt, records, &mut list)?;
-    let Loaded::Bytes(m) = listed else {
+    let Some(m) = load_argument(rt, records, &mut list)? else {
         return Ok(());
     };
     let outcome = sff_corrector::correct_list(&mut buffer, n, whole_part(&list, 0, m));

@@ -6,9 +6,9 @@ use native.Mathlib.Omega.{arith}
 use lib.ListN.{length, length-append}
 use Rattle.answers.specs.Answer.{Answer, Accepted, Refused, number_of, place_of}
 use Rattle.correction_format.specs.ListRun.{ListOutcome}
-use Rattle.lines.specs.Lines.{refusal_line, answer_line}
+use Rattle.lines.specs.Lines.{refusal_line}
 use Rattle.lines.proofs.Lengths.{refusal_line_short, answer_line_short}
-use Rattle.correct_text.specs.Report.{refusal, reported}
+use Rattle.correct_text.specs.Report.{answered, refusal, reported}
 
 refusal_short : (a : Answer) → length (refusal a) ≤ 64
 unfolding refusal
@@ -24,10 +24,13 @@ report_short o =
     rw length-append (omega (arith, a, r))
 
 module _ (o : ListOutcome) where
-  pub reported-accepted : o.answer ≡ Accepted → reported o ≡ answer_line o.count 0 0 o.length
+  pub reported-accepted : o.answer ≡ Accepted → reported o ≡ answered o
   unfolding reported refusal
   reported-accepted e = rw (e, append-nil)
 
-  pub reported_refused : (n p : ℕ) → o.answer ≡ Refused n p → reported o ≡ answer_line o.count n p o.length ++ refusal_line n p
+  pub reported_refused : {n p : ℕ} → o.answer ≡ Refused n p → reported o ≡ answered o ++ refusal_line n p
   unfolding reported refusal
-  reported_refused n p e = rw e
+  reported_refused e = rw e
+
+-- what measures a report needs
+pub ruleset reports = (reported-accepted, reported_refused, length-append)

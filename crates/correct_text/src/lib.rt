@@ -2,76 +2,71 @@
 
 #![tactic(auto)]
 
-ghost use Rattle.std.specs.Prelude.{◌≡◌, ◌++◌, length, replicate};
+ghost use Rattle.std.specs.Prelude.{◌≡◌, IfOk, length, replicate};
 ghost use Rattle.octets.specs.Parts.{put_at};
-ghost use Rattle.text.specs.Writing.{IsPrefixLen, fitted, written};
-ghost use Rattle.lines.specs.Lines.{refusal_line, too_long, answer_line};
-ghost use Rattle.correct_text.specs.Report.{reported, is_written};
+ghost use Rattle.correction_format.specs.ListRun.{list_outcome_of};
+ghost use Rattle.text.specs.Writing.{IsPrefixLen, fitted, written, written_of};
+ghost use Rattle.lines.specs.Lines.{too_long, answer_line};
+ghost use Rattle.correct_text.specs.Report.{answered, reported, is_written};
 
-use answers::{Cause, Refusal};
+use answers::{Refusal, number_of, place_of};
 use correction_format::ListOutcome;
-use lines::inner::{
-    answer_length, put_answer_line, put_refusal_line, refusal_length, write_too_long,
-};
-use text::Written;
+use lines::inner::{AnswerLine, RefusalLine, TooLong};
+use text::inner::{Text, TextWriter, write_text};
 
-// Puts the line of a run that was carried out.
-fn put_carried_out(out: &mut [u8], count: usize, size: usize) -> Written
-    ensures value { result ≡ written (fitted (length out.old) (answer_line count 0 0 size)) }
-    ensures out_after { out.new ≡ put_at 0 (fitted (length out.old) (answer_line count 0 0 size)).text out.old }
+// The line of a list run's answer.
+fn answer_line(outcome: ListOutcome) -> AnswerLine
+    ensures { answer_line result.count result.number result.place result.size ≡ answered (list_outcome_of outcome) }
 {
-    if out.len() < answer_length(count, 0, 0, size) {
-        return Written {
-            answer: Err(Refusal(Cause::NoRoom, 0)),
-            length: 0,
-        };
-    }
-    let length = put_answer_line(out, 0, count, 0, 0, size);
-    Written {
-        answer: Ok(()),
-        length,
+    AnswerLine {
+        count: outcome.count,
+        number: number_of(outcome.answer) as usize,
+        place: place_of(outcome.answer) as usize,
+        size: outcome.length,
     }
 }
 
-// Puts the lines of a run that was refused.
-fn put_refused(out: &mut [u8], count: usize, number: usize, place: usize, size: usize) -> Written
-    ensures value { result ≡ written (fitted (length out.old) (answer_line count number place size ++ refusal_line number place)) }
-    ensures out_after { out.new ≡ put_at 0 (fitted (length out.old) (answer_line count number place size ++ refusal_line number place)).text out.old }
-{
-    if out.len() < answer_length(count, number, place, size) + refusal_length(number, place) {
-        return Written {
-            answer: Err(Refusal(Cause::NoRoom, 0)),
-            length: 0,
-        };
+// What is printed of a list run: the line of its answer, and that of its refusal.
+#[derive(Clone, Copy)]
+struct RunReport(ListOutcome);
+
+impl Text for RunReport {
+    ghost text = { λ report. reported (list_outcome_of report.0) };
+
+    #[tactic(auto, using(crate::proofs::Reports::reports), unfolding(crate::specs::Report::reported, crate::specs::Report::refusal))]
+    fn left_of(&self, room: usize) -> Option<usize> {
+        let left = answer_line(self.0).left_of(room)?;
+        match self.0.answer {
+            Ok(()) => Some(left),
+            Err(refusal) => RefusalLine::from(refusal).left_of(left),
+        }
     }
-    let next = put_answer_line(out, 0, count, number, place, size);
-    let length = put_refusal_line(out, next, number, place);
-    Written {
-        answer: Ok(()),
-        length,
+
+    #[tactic(auto, using(crate::proofs::Reports::reports), unfolding(crate::specs::Report::reported, crate::specs::Report::refusal))]
+    fn put(&self, writer: &mut TextWriter) {
+        answer_line(self.0).put(writer);
+        if let Err(refusal) = self.0.answer {
+            RefusalLine::from(refusal).put(writer);
+        }
     }
 }
 
 // Puts what is printed of a list run at the front of `out`, and answers its length; 26 exactly if `out` is shorter.
-pub fn report(outcome: ListOutcome, out: &mut [u8]) -> Written
-    ensures value { result ≡ written (fitted (length out.old) (reported outcome)) }
-    ensures out_after { out.new ≡ put_at 0 (fitted (length out.old) (reported outcome)).text out.old }
-    ensures prefix_len { IsPrefixLen result.length out.new }
+pub fn report(outcome: ListOutcome, out: &mut [u8]) -> Result<usize, Refusal>
+    ensures value { written_of result ≡ written (fitted (length out.old) (reported (list_outcome_of outcome))) }
+    ensures out_after { out.new ≡ put_at 0 (fitted (length out.old) (reported (list_outcome_of outcome))).text out.old }
+    ensures prefix_len { IfOk result (λ n. IsPrefixLen n out.new) }
 {
-    let answer = outcome.answer;
-    let Answer::Refused(number, place) = answer else {
-        return put_carried_out(out, outcome.count, outcome.length);
-    };
-    put_refused(out, outcome.count, number as usize, place, outcome.length)
+    write_text(&RunReport(outcome), out)
 }
 
 // Puts what is printed of a file or a list that is too long; 26 likewise.
-pub fn too_long(out: &mut [u8]) -> Written
-    ensures value { result ≡ written (fitted (length out.old) too_long) }
+pub fn too_long(out: &mut [u8]) -> Result<usize, Refusal>
+    ensures value { written_of result ≡ written (fitted (length out.old) too_long) }
     ensures out_after { out.new ≡ put_at 0 (fitted (length out.old) too_long).text out.old }
-    ensures prefix_len { IsPrefixLen result.length out.new }
+    ensures prefix_len { IfOk result (λ n. IsPrefixLen n out.new) }
 {
-    write_too_long(out)
+    write_text(&TooLong, out)
 }
 
 // Room for whatever is printed.
@@ -83,12 +78,9 @@ pub fn report_room() -> [u8; 256]
 }
 
 // Whether a new file is written after a list run.
+#[tactic(auto, unfolding(crate::specs::Report::is_written, answers::specs::Answer::accepted_or))]
 pub fn is_written(outcome: ListOutcome) -> bool
-    ensures { result ≡ is_written outcome }
+    ensures { result ≡ is_written (list_outcome_of outcome) }
 {
-    let answer = outcome.answer;
-    let Answer::Refused(_, _) = answer else {
-        return true;
-    };
-    outcome.count > 0
+    outcome.answer.is_ok() || outcome.count > 0
 }

@@ -1,7 +1,7 @@
 -- How long each line is, and can be: what the code measures, and what room is enough for any. Assumes nothing.
 use mathlib.Core.Path.{◌≡◌}
 use mathlib.Core.List.{List}
-use Prim.Native.Nat.{ℕ, ◌+◌, ◌-◌, ◌≤◌}
+use Prim.Native.Nat.{ℕ, ◌+◌, ◌≤◌}
 use native.Mathlib.Omega.{arith}
 use lib.ListN.{length, length-append}
 use Rattle.text.specs.Writing.{or_dash}
@@ -47,7 +47,3 @@ module _ (count number place size : ℕ) where
   pub answer_line_short : length (answer_line count number place size) ≤ 110
   answer_line_short =
       rw answer_line_length (omega (arith, decimal_short count, decimal_short number, decimal_short place, decimal_short size))
-
--- n bytes are taken from what two words leave of the room
-pub after-words : (room a b n l : ℕ) {left left' r : ℕ} → left ≡ room - a → left' ≡ left - b → r ≡ left' - n → l ≡ a + b + n → r ≡ room - l
-after-words room a b n l e f g h = omega (arith, e, f, g, h)

@@ -1,202 +1,188 @@
-// A function that puts text asks for the room that it fills, which the crates above have measured, and answers the
-// place after what it put. The others measure: a line's length, what it leaves of some room, or whether it fits before
-// it is written.
-ghost use Rattle.std.specs.Prelude.{◌≡◌, ◌+◌, ◌-◌, ◌≤◌, length};
-ghost use Rattle.octets.specs.Parts.{put_at};
-ghost use Rattle.text.specs.Writing.{Room, fitted, written};
-ghost use Rattle.lines.specs.Lines.{number_field, word_field, labelled_number, labelled_word, header_line, extent, read_line, refusal_line, too_long, answer_line};
+// The lines that the programs print, each a text that is measured and put field by field.
+ghost use Rattle.std.specs.Prelude.{◌≡◌};
+ghost use Rattle.text.specs.Writer.{HasRoom, Puts};
+ghost use Rattle.lines.specs.Lines.{number_field, word_field, labelled_number, labelled_word, extent, refusal_line, too_long, answer_line};
+ghost use Rattle.lines.specs.Texts.{header_text, read_text};
+ghost use Rattle.answers.specs.Causes.{number};
 
-use answers::{Cause, Refusal};
-use text::Written;
-use text::inner::{
-    number_length, put_byte, put_bytes, put_number, put_or_dash, room_after, word_length,
-};
+use answers::Refusal;
+use text::inner::{Text, TextWriter, number_length, word_length};
 
 // Puts a number and the byte that ends it.
-fn put_number_field(out: &mut [u8], at: usize, n: usize, end: u8) -> usize
-    requires { Room at (number_field n end) out.old }
-    ensures value { result ≡ at + length (number_field n end) }
-    ensures out_after { out.new ≡ put_at at (number_field n end) out.old }
+fn put_number_field(writer: &mut TextWriter, n: usize, end: u8)
+    requires { HasRoom (number_field n end) writer.old }
+    ensures { Puts (number_field n end) writer.old writer.new }
 {
-    let next = put_number(out, at, n);
-    put_byte(out, next, end)
+    writer.put_number(n);
+    writer.put_byte(end);
 }
 
 // Puts a word, "-" where it is empty, and the byte that ends it.
-fn put_word_field(out: &mut [u8], at: usize, word: &[u8], end: u8) -> usize
-    requires { Room at (word_field word.now end) out.old }
-    ensures value { result ≡ at + length (word_field word.now end) }
-    ensures out_after { out.new ≡ put_at at (word_field word.now end) out.old }
+fn put_word_field(writer: &mut TextWriter, word: &[u8], end: u8)
+    requires { HasRoom (word_field word.now end) writer.old }
+    ensures { Puts (word_field word.now end) writer.old writer.new }
 {
-    let next = put_or_dash(out, at, word);
-    put_byte(out, next, end)
+    writer.put_or_dash(word);
+    writer.put_byte(end);
 }
 
 // Puts a number behind its label.
-fn put_labelled_number(out: &mut [u8], at: usize, label: &[u8], n: usize, end: u8) -> usize
-    requires { Room at (labelled_number label.now n end) out.old }
-    ensures value { result ≡ at + length (labelled_number label.now n end) }
-    ensures out_after { out.new ≡ put_at at (labelled_number label.now n end) out.old }
+fn put_labelled_number(writer: &mut TextWriter, label: &[u8], n: usize, end: u8)
+    requires { HasRoom (labelled_number label.now n end) writer.old }
+    ensures { Puts (labelled_number label.now n end) writer.old writer.new }
 {
-    let next = put_bytes(out, at, label);
-    put_number_field(out, next, n, end)
+    writer.put_bytes(label);
+    put_number_field(writer, n, end);
 }
 
 // Puts a word behind its label.
-fn put_labelled_word(out: &mut [u8], at: usize, label: &[u8], word: &[u8], end: u8) -> usize
-    requires { Room at (labelled_word label.now word.now end) out.old }
-    ensures value { result ≡ at + length (labelled_word label.now word.now end) }
-    ensures out_after { out.new ≡ put_at at (labelled_word label.now word.now end) out.old }
+fn put_labelled_word(writer: &mut TextWriter, label: &[u8], word: &[u8], end: u8)
+    requires { HasRoom (labelled_word label.now word.now end) writer.old }
+    ensures { Puts (labelled_word label.now word.now end) writer.old writer.new }
 {
-    let next = put_bytes(out, at, label);
-    put_word_field(out, next, word, end)
-}
-
-// Puts the line of a header.
-pub fn put_header_line(out: &mut [u8], at: usize, flows: usize, key: &[u8], reads: usize) -> usize
-    requires { Room at (header_line flows key.now reads) out.old }
-    ensures value { result ≡ at + length (header_line flows key.now reads) }
-    ensures out_after { out.new ≡ put_at at (header_line flows key.now reads) out.old }
-{
-    let next = put_labelled_number(out, at, b"flows ", flows, b' ');
-    let after = put_labelled_word(out, next, b"key ", key, b' ');
-    put_labelled_number(out, after, b"reads ", reads, b'\n')
+    writer.put_bytes(label);
+    put_word_field(writer, word, end);
 }
 
 // Puts a read's number of bases, and the first and the last base of its insert.
-fn put_extent(out: &mut [u8], at: usize, bases: usize, first: usize, last: usize) -> usize
-    requires { Room at (extent bases first last) out.old }
-    ensures value { result ≡ at + length (extent bases first last) }
-    ensures out_after { out.new ≡ put_at at (extent bases first last) out.old }
+fn put_extent(writer: &mut TextWriter, bases: usize, first: usize, last: usize)
+    requires { HasRoom (extent bases first last) writer.old }
+    ensures { Puts (extent bases first last) writer.old writer.new }
 {
-    let next = put_number_field(out, at, bases, b' ');
-    let after = put_number_field(out, next, first, b' ');
-    put_number_field(out, after, last, b' ')
+    put_number_field(writer, bases, b' ');
+    put_number_field(writer, first, b' ');
+    put_number_field(writer, last, b' ');
 }
 
-// Puts the line of a read.
-pub fn put_read_line(
-    out: &mut [u8],
-    at: usize,
-    position: usize,
-    name: &[u8],
-    bases: usize,
-    first: usize,
-    last: usize,
-    insert: &[u8],
-) -> usize
-    requires { Room at (read_line position name.now bases first last insert.now) out.old }
-    ensures value { result ≡ at + length (read_line position name.now bases first last insert.now) }
-    ensures out_after { out.new ≡ put_at at (read_line position name.now bases first last insert.now) out.old }
-{
-    let next = put_number_field(out, at, position, b' ');
-    let after = put_word_field(out, next, name, b' ');
-    let end = put_extent(out, after, bases, first, last);
-    put_word_field(out, end, insert, b'\n')
+// The line of a file's header.
+#[derive(Clone, Copy)]
+pub struct HeaderLine<'a> {
+    pub flows: usize,
+    pub key: &'a [u8],
+    pub reads: usize,
 }
 
-// Puts the line of a refusal.
-pub fn put_refusal_line(out: &mut [u8], at: usize, number: usize, place: usize) -> usize
-    requires { Room at (refusal_line number place) out.old }
-    ensures value { result ≡ at + length (refusal_line number place) }
-    ensures out_after { out.new ≡ put_at at (refusal_line number place) out.old }
-{
-    let next = put_labelled_number(out, at, b"refused ", number, b' ');
-    put_labelled_number(out, next, b"at ", place, b'\n')
-}
+impl Text for HeaderLine<'_> {
+    ghost text = { header_text };
 
-// Puts the line of a list run's answer.
-pub fn put_answer_line(
-    out: &mut [u8],
-    at: usize,
-    count: usize,
-    number: usize,
-    place: usize,
-    size: usize,
-) -> usize
-    requires { Room at (answer_line count number place size) out.old }
-    ensures value { result ≡ at + length (answer_line count number place size) }
-    ensures out_after { out.new ≡ put_at at (answer_line count number place size) out.old }
-{
-    let next = put_labelled_number(out, at, b"count ", count, b' ');
-    let after = put_labelled_number(out, next, b"number ", number, b' ');
-    let end = put_labelled_number(out, after, b"place ", place, b' ');
-    put_labelled_number(out, end, b"length ", size, b'\n')
-}
-
-// What the line of a header leaves of so much room.
-pub fn after_header_line(room: usize, flows: usize, key: &[u8], reads: usize) -> usize
-    ensures { result ≡ room - length (header_line flows key.now reads) }
-{
-    let numbers = number_length(flows) + number_length(reads);
-    room_after(room_after(room, word_length(key)), numbers + 19)
-}
-
-// What the line of a read leaves of so much room.
-pub fn after_read_line(
-    room: usize,
-    position: usize,
-    name: &[u8],
-    bases: usize,
-    first: usize,
-    last: usize,
-    insert: &[u8],
-) -> usize
-    ensures { result ≡ room - length (read_line position name.now bases first last insert.now) }
-{
-    let extent = number_length(bases) + number_length(first) + number_length(last);
-    let words = room_after(room_after(room, word_length(name)), word_length(insert));
-    room_after(words, number_length(position) + extent + 6)
-}
-
-// The length of a refusal's line.
-pub fn refusal_length(number: usize, place: usize) -> usize
-    ensures value { result ≡ length (refusal_line number place) }
-    ensures upper_bound { result ≤ 64 }
-{
-    number_length(number) + number_length(place) + 13
-}
-
-// The length of the line of a list run's answer.
-pub fn answer_length(count: usize, number: usize, place: usize, size: usize) -> usize
-    ensures value { result ≡ length (answer_line count number place size) }
-    ensures upper_bound { result ≤ 110 }
-{
-    number_length(count) + number_length(number) + number_length(place) + number_length(size) + 30
-}
-
-// Puts the line of a refusal at the front of `out`, if it fits.
-pub fn write_refusal(out: &mut [u8], number: usize, place: usize) -> Written
-    ensures value { result ≡ written (fitted (length out.old) (refusal_line number place)) }
-    ensures out_after { out.new ≡ put_at 0 (fitted (length out.old) (refusal_line number place)).text out.old }
-{
-    if out.len() < refusal_length(number, place) {
-        return Written {
-            answer: Err(Refusal(Cause::NoRoom, 0)),
-            length: 0,
-        };
+    #[tactic(auto, using(crate::proofs::Lengths::header_line_length))]
+    fn left_of(&self, room: usize) -> Option<usize> {
+        let numbers = number_length(self.flows) + number_length(self.reads);
+        room.checked_sub(word_length(self.key))?
+            .checked_sub(numbers + 19)
     }
-    let length = put_refusal_line(out, 0, number, place);
-    Written {
-        answer: Ok(()),
-        length,
+
+    fn put(&self, writer: &mut TextWriter) {
+        put_labelled_number(writer, b"flows ", self.flows, b' ');
+        put_labelled_word(writer, b"key ", self.key, b' ');
+        put_labelled_number(writer, b"reads ", self.reads, b'\n');
     }
 }
 
-// Puts the line of an input that is too long at the front of `out`, if it fits.
-pub fn write_too_long(out: &mut [u8]) -> Written
-    ensures value { result ≡ written (fitted (length out.old) too_long) }
-    ensures out_after { out.new ≡ put_at 0 (fitted (length out.old) too_long).text out.old }
-{
-    if out.len() < 9 {
-        return Written {
-            answer: Err(Refusal(Cause::NoRoom, 0)),
-            length: 0,
-        };
+// The line of a read: its number of bases, and the first and the last base of its insert.
+#[derive(Clone, Copy)]
+pub struct ReadLine<'a> {
+    pub position: usize,
+    pub name: &'a [u8],
+    pub bases: usize,
+    pub first: usize,
+    pub last: usize,
+    pub insert: &'a [u8],
+}
+
+impl Text for ReadLine<'_> {
+    ghost text = { read_text };
+
+    #[tactic(auto, using(crate::proofs::Lengths::read_line_length))]
+    fn left_of(&self, room: usize) -> Option<usize> {
+        let extent = number_length(self.bases)
+            + number_length(self.first)
+            + number_length(self.last);
+        let numbers = number_length(self.position) + extent;
+        room.checked_sub(word_length(self.name))?
+            .checked_sub(word_length(self.insert))?
+            .checked_sub(numbers + 6)
     }
-    let length = put_bytes(out, 0, b"too long\n");
-    Written {
-        answer: Ok(()),
-        length,
+
+    fn put(&self, writer: &mut TextWriter) {
+        put_number_field(writer, self.position, b' ');
+        put_word_field(writer, self.name, b' ');
+        put_extent(writer, self.bases, self.first, self.last);
+        put_word_field(writer, self.insert, b'\n');
+    }
+}
+
+// The line of a refusal.
+#[derive(Clone, Copy)]
+pub struct RefusalLine {
+    pub number: usize,
+    pub place: usize,
+}
+
+impl From<Refusal> for RefusalLine {
+    fn from(refusal: Refusal) -> RefusalLine
+        ensures { result ≡ record { number = number refusal.0; place = refusal.1 } }
+    {
+        let Refusal(cause, place) = refusal;
+        RefusalLine {
+            number: cause.number() as usize,
+            place,
+        }
+    }
+}
+
+impl Text for RefusalLine {
+    ghost text = { λ line. refusal_line line.number line.place };
+
+    #[tactic(auto, using(crate::proofs::Lengths::refusal_line_length))]
+    fn left_of(&self, room: usize) -> Option<usize> {
+        room.checked_sub(number_length(self.number) + number_length(self.place) + 13)
+    }
+
+    fn put(&self, writer: &mut TextWriter) {
+        put_labelled_number(writer, b"refused ", self.number, b' ');
+        put_labelled_number(writer, b"at ", self.place, b'\n');
+    }
+}
+
+// The line of an input that is too long.
+#[derive(Clone, Copy)]
+pub struct TooLong;
+
+impl Text for TooLong {
+    ghost text = { λ line. too_long };
+
+    fn left_of(&self, room: usize) -> Option<usize> {
+        room.checked_sub(9)
+    }
+
+    fn put(&self, writer: &mut TextWriter) {
+        writer.put_bytes(b"too long\n");
+    }
+}
+
+// The line of a list run's answer.
+#[derive(Clone, Copy)]
+pub struct AnswerLine {
+    pub count: usize,
+    pub number: usize,
+    pub place: usize,
+    pub size: usize,
+}
+
+impl Text for AnswerLine {
+    ghost text = { λ line. answer_line line.count line.number line.place line.size };
+
+    #[tactic(auto, using(crate::proofs::Lengths::answer_line_length))]
+    fn left_of(&self, room: usize) -> Option<usize> {
+        let counts = number_length(self.count) + number_length(self.size);
+        room.checked_sub(counts + number_length(self.number) + number_length(self.place) + 30)
+    }
+
+    fn put(&self, writer: &mut TextWriter) {
+        put_labelled_number(writer, b"count ", self.count, b' ');
+        put_labelled_number(writer, b"number ", self.number, b' ');
+        put_labelled_number(writer, b"place ", self.place, b' ');
+        put_labelled_number(writer, b"length ", self.size, b'\n');
     }
 }

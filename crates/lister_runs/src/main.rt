@@ -2,7 +2,7 @@
 
 #![tactic(auto)]
 
-use loading::{Loaded, argument_count, load_named};
+use loading::{argument_count, load_named};
 use octets::whole_part;
 use printing::print_text;
 use std::io;
@@ -10,8 +10,7 @@ use std::rt::{Env, Files};
 
 fn print_file(rt: &(impl Env + Files + Print + Eprint), i: usize) -> io::Result<()> {
     let mut input = [0u8; 65537];
-    let file = load_named(rt, i, &mut input)?;
-    let Loaded::Bytes(n) = file else {
+    let Some(n) = load_named(rt, i, &mut input)? else {
         return Ok(());
     };
     let mut text = lister_text::print_room();

@@ -14,8 +14,9 @@ use Rattle.sff_format.specs.Insert.{insert_first, insert_last, insert_of}
 use Rattle.sff_format.proofs.Sizes.{length_header, length_head, length_data}
 use Rattle.sff_format.proofs.FileLaid.{file_laid}
 use Rattle.sff_format.proofs.Inserted.{insert-most}
+use Rattle.lines.specs.Lines.{answered}
 use Rattle.lines.proofs.Lengths.{header_line_short, read_line_short, refusal_line_short}
-use Rattle.lister_text.specs.Listing.{line_of, lines_from, file_lines, listed, listing, enough}
+use Rattle.lister_text.specs.Listing.{line_of, lines_from, file_lines, listing, enough}
 
 line_short : (i : ℕ) (r : Read) → length (line_of i r) ≤ 7 * length (layout_read r)
 unfolding layout_read
@@ -46,9 +47,9 @@ file_short f =
     rw length-append (omega arith)
 
 pub listing_short : (b : List ℕ) → Bytes b → length (listing b) ≤ enough (length b)
-unfolding listing listed
+unfolding listing answered
 listing_short b y = go (file_test b) refl
   where
-    go : (a : Answer) → file_test b ≡ a → length (listed a b) ≤ 7 * length b + 64
+    go : (a : Answer) → file_test b ≡ a → length (answered a (file_lines (parse b))) ≤ 7 * length b + 64
     go Accepted e = let s = file_short (parse b) in let t = file_laid b y e in omega (arith, ap length t)
     go (Refused n p) e = let s = refusal_line_short n p in omega arith

@@ -1,12 +1,9 @@
 -- What is printed, as lines: the header's and one for each read, in order; a refusal's; or `too long`. Assumes nothing.
 use Prim.Native.Nat.{ℕ, zero, suc, ◌+◌, ◌≤◌, ◌<◌}
 use mathlib.Core.Path.{◌≡◌, refl, ap, ◌∙◌}
-use mathlib.Core.Bool.{Bool, true, false, cond}
 use mathlib.Core.List.{List, [], ◌∷◌, ◌++◌, flatten}
 use native.Mathlib.Omega.{arith}
-use lib.Dec.{ltb}
 use lib.ListN.{length, get_or}
-use borrow.Author.Tests.{ltb-false, lt-ltb, le-ltb}
 use Rattle.octets.specs.Numbers.{Bytes}
 use Rattle.answers.specs.Answer.{Accepted, Refused}
 use Rattle.sff_format.specs.Model.{Read}
@@ -14,6 +11,7 @@ use Rattle.sff_format.specs.FileTest.{file_test}
 use Rattle.sff_format.specs.Parse.{parse}
 use Rattle.sff_format.specs.Places.{no_read}
 use Rattle.lines.specs.Lines.{refusal_line, too_long}
+use Rattle.lines.proofs.Answered.{is_long, not_long, long_or_not}
 use Rattle.lister_text.specs.Listing.{line_of, lines_from, file_lines, listing, enough, printed}
 use Rattle.lister_text.proofs.Lengths.{listing_short}
 use Rattle.lister_text.proofs.Whole.{listing-accepted, listing_refused}
@@ -44,7 +42,7 @@ line_at position (r ∷ rs) (suc i) h =
 module _ (b : List ℕ) where
   pub printed_short : length b ≤ 65536 → printed b ≡ listing b
   unfolding printed
-  printed_short h = rw (le-ltb 65536 (length b) h)
+  printed_short h = not_long b _ h
 
   pub printed-accepted : length b ≤ 65536 → file_test b ≡ Accepted → printed b ≡ file_lines (parse b)
   printed-accepted h e = printed_short h ∙ listing-accepted b e
@@ -54,13 +52,9 @@ module _ (b : List ℕ) where
 
   pub printed_long : 65536 < length b → printed b ≡ too_long
   unfolding printed
-  printed_long h = rw (lt-ltb 65536 (length b) h)
+  printed_long h = is_long b _ h
 
   -- room for whatever is printed
   pub printed-most : Bytes b → length (printed b) ≤ enough 65536
   unfolding printed
-  printed-most y = go (ltb 65536 (length b)) refl
-    where
-      go : (t : Bool) → ltb 65536 (length b) ≡ t → length (cond t too_long (listing b)) ≤ enough 65536
-      go true e = omega arith
-      go false e = let s = listing_short b y in let h = ltb-false 65536 (length b) e in omega arith
+  printed-most y = long_or_not b (listing b) (λ (xs : List ℕ). length xs ≤ enough 65536) (omega arith) (λ h. omega (arith, h, listing_short b y))

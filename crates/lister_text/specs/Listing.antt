@@ -1,13 +1,12 @@
 -- What the lister prints of a file, document 01's words in quotation marks. Assumes nothing: these are definitions.
-use Rattle.std.specs.Prelude.{ℕ, suc, ◌+◌, ◌*◌, cond, List, [], ◌∷◌, ◌++◌, length, ltb}
-use Rattle.answers.specs.Answer.{Answer, Accepted, Refused}
+use Rattle.std.specs.Prelude.{ℕ, suc, ◌+◌, ◌*◌, List, [], ◌∷◌, ◌++◌, length}
 use Rattle.sff_format.specs.declared.ReadView.{ReadView}
 use Rattle.sff_format.specs.Model.{Read, File}
 use Rattle.sff_format.specs.FileTest.{file_test}
 use Rattle.sff_format.specs.Parse.{parse}
 use Rattle.sff_format.specs.Insert.{insert_first, insert_last, insert_of}
 use Rattle.sff_format.specs.View.{bytes_in, view_first, view_last, insert_in}
-use Rattle.lines.specs.Lines.{header_line, read_line, refusal_line, too_long}
+use Rattle.lines.specs.Lines.{header_line, read_line, answered, unless_long}
 
 -- "A read's line is position, name, N, first, last, insert"
 abbrev pub line_of : ℕ → Read → List ℕ
@@ -26,14 +25,9 @@ file_lines content =
     header_line (length content.flow_characters) content.key (length content.reads)
     ++ lines_from 0 content.reads
 
--- "A refusal is one line and nothing else"
-unfoldable pub listed : Answer → List ℕ → List ℕ
-listed Accepted file = file_lines (parse file)
-listed (Refused number place) file = refusal_line number place
-
--- of any bytes
+-- of any bytes: "A refusal is one line and nothing else"
 unfoldable pub listing : List ℕ → List ℕ
-listing file = listed (file_test file) file
+listing file = answered (file_test file) (file_lines (parse file))
 
 -- room for the listing of any n bytes
 abbrev pub enough : ℕ → ℕ
@@ -41,7 +35,7 @@ enough n = 7 * n + 64
 
 -- "longer input than 65,536 bytes prints `too long`"
 unfoldable pub printed : List ℕ → List ℕ
-printed file = cond (ltb 65536 (length file)) too_long (listing file)
+printed file = unless_long file (listing file)
 
 -- what the code puts for a read: its line, from its places in the file
 unfoldable pub view_line : List ℕ → ℕ → ReadView → List ℕ

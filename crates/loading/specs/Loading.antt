@@ -1,9 +1,6 @@
 -- A word of this crate's contracts. Assumes nothing: this is a definition.
-use Rattle.std.specs.Prelude.{ℕ, ◌≤◌, List, length}
-use Rattle.loading.specs.declared.Loaded.{Loaded}
-use Rattle.loading.specs.declared.Loaded.TheVariants.{Bytes, Nothing}
+use Rattle.std.specs.Prelude.{ℕ, ◌≤◌, Option, IfSome, List, length}
 
--- what was read stands in the buffer
-abbrev pub Fits : Loaded → List ℕ → Type 0
-Fits (Bytes n) buffer = n ≤ length buffer
-Fits Nothing buffer = Unit {0}
+-- what was read, if anything, stands in the buffer
+abbrev pub Fits : Option ℕ → List ℕ → Type 0
+Fits loaded buffer = IfSome loaded (λ n. n ≤ length buffer)

@@ -2,7 +2,7 @@
 
 #![tactic(auto)]
 
-ghost use Rattle.std.specs.Prelude.{◌≡◌, ◌≤◌, IfOk, IfSome, IsUtf8, MatchResult, length};
+ghost use Rattle.std.specs.Prelude.{◌≡◌, IfOk, IsUtf8, MatchResult, length};
 ghost use Rattle.text.specs.Writing.{IsPrefixLen};
 ghost use Rattle.loading.specs.Loading.{Fits};
 
@@ -12,13 +12,6 @@ use std::fs::File;
 use std::io::{Cursor, Error, ErrorKind, Read, Write};
 use std::rt::{Env, Files};
 use std::{io, str};
-
-// A file that was read, with its length; or one that was not, and why is printed.
-#[derive(Clone, Copy)]
-pub enum Loaded {
-    Bytes(usize),
-    Nothing,
-}
 
 // How many arguments there are, the program's name among them.
 pub fn argument_count(rt: &impl Env) -> usize {
@@ -108,7 +101,7 @@ fn read_front(rt: &impl Files, path: &[u8], bytes: &mut [u8]) -> io::Result<usiz
 
 // Reads the file at a path into the front of `bytes`, and answers its length; none if it has more bytes than these.
 fn read_whole(rt: &impl Files, path: &[u8], bytes: &mut [u8]) -> io::Result<Option<usize>>
-    ensures { IfOk result (λ size. IfSome size (λ n. n ≤ length bytes.new)) }
+    ensures { IfOk result (λ size. Fits size bytes.new) }
 {
     let mut file = File::open(rt, file_name(path)?)?;
     let size = read_full(&mut file, bytes)?;
@@ -120,20 +113,20 @@ fn read_whole(rt: &impl Files, path: &[u8], bytes: &mut [u8]) -> io::Result<Opti
     Ok(Some(size))
 }
 
-// Reads the file at a path.
-fn load(rt: &(impl Files + Print + Eprint), path: &[u8], bytes: &mut [u8]) -> io::Result<Loaded>
+// Reads the file at a path, and answers its length; none if it was not read, and why is printed.
+fn load(rt: &(impl Files + Print + Eprint), path: &[u8], bytes: &mut [u8]) -> io::Result<Option<usize>>
     ensures fits { IfOk result (λ loaded. Fits loaded bytes.new) }
     ensures size { length bytes.new ≡ length bytes.old }
 {
     match read_whole(rt, path, bytes) {
-        Ok(Some(size)) => Ok(Loaded::Bytes(size)),
+        Ok(Some(size)) => Ok(Some(size)),
         Ok(None) => {
             print_too_long(rt)?;
-            Ok(Loaded::Nothing)
+            Ok(None)
         }
         Err(why) => {
             tell(rt, path, why);
-            Ok(Loaded::Nothing)
+            Ok(None)
         }
     }
 }
@@ -144,7 +137,7 @@ pub fn load_argument(
     rt: &(impl Env + Files + Print + Eprint),
     i: usize,
     bytes: &mut [u8],
-) -> io::Result<Loaded>
+) -> io::Result<Option<usize>>
     ensures fits { IfOk result (λ loaded. Fits loaded bytes.new) }
     ensures size { length bytes.new ≡ length bytes.old }
 {
@@ -159,7 +152,7 @@ pub fn load_named(
     rt: &(impl Env + Files + Print + Eprint),
     i: usize,
     input: &mut [u8],
-) -> io::Result<Loaded>
+) -> io::Result<Option<usize>>
     ensures fits { IfOk result (λ loaded. Fits loaded input.new) }
     ensures size { length input.new ≡ length input.old }
 {
@@ -169,11 +162,11 @@ pub fn load_named(
         Ok(count) => {
             rt.write_all(&path[..n])?;
             rt.write_all(b":\n")?;
-            Ok(Loaded::Bytes(count))
+            Ok(Some(count))
         }
         Err(why) => {
             tell(rt, &path[..n], why);
-            Ok(Loaded::Nothing)
+            Ok(None)
         }
     }
 }

@@ -1,8 +1,9 @@
--- A read as it is lent, and how long its sections are. Assumes nothing: these are definitions.
+-- A read and a new file's characters as they are lent, and how long their sections are. Assumes nothing: these are definitions.
 use Rattle.std.specs.Prelude.{ℕ, ◌+◌, ◌*◌, ◌≤◌, List, [], ◌∷◌, length}
 use Rattle.octets.specs.Parts.{up8}
-use Rattle.sff_format.specs.Model.{Read}
-use Rattle.sff_format.specs.Writing.{read_of}
+use Rattle.sff_format.specs.Model.{Read, File}
+use Rattle.sff_format.specs.Writing.{read_of, new_file}
+use Rattle.sff_sections.specs.declared.NewHeader.{NewHeader}
 use Rattle.sff_sections.specs.declared.NewRead.{NewRead}
 
 -- the read that is lent
@@ -13,6 +14,14 @@ read_in new = read_of new.name.now new.clips new.values.now new.increments.now n
 -- up8(2F+3N)"
 abbrev pub read_size : Read → ℕ
 read_size read = up8 (16 + length read.name) + up8 (2 * length read.values + 3 * length read.bases)
+
+-- the new file whose characters are lent
+abbrev pub file_in : NewHeader → File
+file_in new = new_file new.flows.now new.key.now
+
+-- the bytes of a header: "zero padding to up8(31+F+K), which is the header length"
+abbrev pub header_size : File → ℕ
+header_size content = up8 (31 + length content.flow_characters + length content.key)
 
 -- each field has at most 8 bytes
 abbrev pub AllNarrow : List (ℕ × ℕ) → Type 0

@@ -3,20 +3,11 @@ ghost use Rattle.std.specs.Prelude.{ℕ, ◌≡◌, ◌+◌, ◌-◌, ◌*◌, �
 ghost use Rattle.octets.specs.Parts.{put_at, up8};
 ghost use Rattle.octets.specs.Numbers.{bytes_of, fields};
 ghost use Rattle.sff_format.specs.Model.{layout, layout_read, layout_read_header, layout_read_data};
-ghost use Rattle.sff_format.specs.Writing.{new_file};
-ghost use Rattle.sff_sections.specs.Sections.{read_in, read_size, AllNarrow};
+ghost use Rattle.sff_sections.specs.Sections.{read_in, read_size, file_in, header_size, AllNarrow};
 
-use crate::NewRead;
+use crate::{NewHeader, NewRead};
 use buffers::inner::put_words;
 use octets::inner::up8;
-
-// How many bytes a header occupies.
-pub fn header_size(flows: usize, key: usize) -> usize
-    requires { flows + key ≤ 65497 }
-    ensures { result ≡ up8 (31 + flows + key) }
-{
-    up8(31 + flows + key)
-}
 
 // Puts all bytes of `source` at `at`.
 fn put_bytes(buffer: &mut [u8], at: usize, source: &[u8])
@@ -115,26 +106,36 @@ impl NewRead<'_> {
     }
 }
 
-// Puts a new file: a header alone.
-pub fn put_new_header(buffer: &mut [u8], flows: &[u8], key: &[u8])
-    requires key_len_bound { length flows.now + length key.now ≤ 65497 }
-    requires key_in_bounds { up8 (31 + length flows.now + length key.now) ≤ length buffer.old }
-    ensures { buffer.new ≡ put_at 0 (layout (new_file flows.now key.now)) buffer.old }
-{
-    let key_at = 31 + flows.len();
-    let fields = [
-        (4, 0x2E736666),
-        (4, 1),
-        (8, 0),
-        (4, 0),
-        (4, 0),
-        (2, header_size(flows.len(), key.len())),
-        (2, key.len()),
-        (2, flows.len()),
-        (1, 1),
-    ];
-    put_fields(buffer, 0, &fields);
-    put_bytes(buffer, 31, flows);
-    put_bytes(buffer, key_at, key);
-    put_padding(buffer, 0, key_at + key.len());
+impl NewHeader<'_> {
+    // How many bytes the header occupies.
+    pub fn size(&self) -> usize
+        requires { length self.now.flows.now + length self.now.key.now ≤ 65497 }
+        ensures { result ≡ header_size (file_in self.now) }
+    {
+        up8(31 + self.flows.len() + self.key.len())
+    }
+
+    // Puts a new file at the front of the buffer: the header alone.
+    pub fn put(&self, buffer: &mut [u8])
+        requires key_len_bound { length self.now.flows.now + length self.now.key.now ≤ 65497 }
+        requires in_bounds { header_size (file_in self.now) ≤ length buffer.old }
+        ensures { buffer.new ≡ put_at 0 (layout (file_in self.now)) buffer.old }
+    {
+        let key_at = 31 + self.flows.len();
+        let fields = [
+            (4, 0x2E736666),
+            (4, 1),
+            (8, 0),
+            (4, 0),
+            (4, 0),
+            (2, self.size()),
+            (2, self.key.len()),
+            (2, self.flows.len()),
+            (1, 1),
+        ];
+        put_fields(buffer, 0, &fields);
+        put_bytes(buffer, 31, self.flows);
+        put_bytes(buffer, key_at, self.key);
+        put_padding(buffer, 0, key_at + self.key.len());
+    }
 }

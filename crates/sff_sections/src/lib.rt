@@ -24,6 +24,13 @@ pub struct NewRead<'a> {
     pub qualities: &'a [u8],
 }
 
+// The flow characters and the key of a file that is to be written.
+#[derive(Clone, Copy)]
+pub struct NewHeader<'a> {
+    pub flows: &'a [u8],
+    pub key: &'a [u8],
+}
+
 impl NewRead<'_> {
     // The counts: they differ from F or from each other, or there are more bases than a read can count (30).
     #[tactic(auto, unfolding(sff_format::specs::Writing::bad_counts))]

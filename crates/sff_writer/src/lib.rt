@@ -17,8 +17,7 @@ use sff_clips::inner::clip_test;
 use sff_file::file_test;
 use sff_format::Clips;
 use sff_header::HeadedFile;
-use sff_sections::NewRead;
-use sff_sections::inner::{header_size, put_new_header};
+use sff_sections::{NewHeader, NewRead};
 use sff_walk::BasePosition;
 use sff_walk::inner::bases_test;
 
@@ -72,16 +71,16 @@ fn given_test(characters: &[u8], read: &NewRead) -> Result<(), Refusal>
 }
 
 // A new file's reasons to refuse: too many characters (5), a character (6), no room (26).
-fn new_test(room: usize, flows: &[u8], key: &[u8]) -> Result<(), Refusal>
-    ensures { answer_of result ≡ new_test room flows.now key.now }
+fn new_test(room: usize, header: &NewHeader) -> Result<(), Refusal>
+    ensures { answer_of result ≡ new_test room header.now.flows.now header.now.key.now }
 {
-    if flows.len() + key.len() > MOST_CHARACTERS {
+    if header.flows.len() + header.key.len() > MOST_CHARACTERS {
         return Err(Refusal(Cause::SectionLength, 0));
     }
-    if fails(ByteTest::FlowCharacter, flows) | fails(ByteTest::FlowCharacter, key) {
+    if fails(ByteTest::FlowCharacter, header.flows) | fails(ByteTest::FlowCharacter, header.key) {
         return Err(Refusal(Cause::Character, 0));
     }
-    if room < header_size(flows.len(), key.len()) {
+    if room < header.size() {
         return Err(Refusal(Cause::NoRoom, 0));
     }
     Ok(())
@@ -93,9 +92,10 @@ pub fn new_file(buffer: &mut [u8], flows: &[u8], key: &[u8]) -> Result<usize, Re
     ensures value { outcome_of 0 result ≡ new_outcome buffer.old flows.now key.now }
     ensures buffer_after { buffer.new ≡ new_buffer buffer.old flows.now key.now }
 {
-    new_test(buffer.len(), flows, key)?;
-    put_new_header(buffer, flows, key);
-    Ok(header_size(flows.len(), key.len()))
+    let header = NewHeader { flows, key };
+    new_test(buffer.len(), &header)?;
+    header.put(buffer);
+    Ok(header.size())
 }
 
 // The reasons that a file gives against any read: its own refusal, an index (25), as many reads as can be counted (31).

@@ -1,58 +1,53 @@
--- A text that a loop puts piece by piece: what is to come, put at the place that is reached, leaves what the whole
--- leaves; and one that a loop measures so. Assumes nothing.
-use mathlib.Core.Path.{◌≡◌, refl, sym, ap, ◌∙◌}
-use mathlib.Core.List.{List, [], ◌++◌}
-use Prim.Native.Nat.{ℕ, ◌+◌, ◌-◌, ◌≤◌}
+-- A text that a loop puts piece by piece, or measures so. Assumes nothing.
+use mathlib.Core.Path.{◌≡◌, sym, ap, ◌∙◌}
+use mathlib.Core.List.{List, [], ◌++◌, append_assoc, append-nil}
+use Prim.Native.Nat.{ℕ, ◌+◌, ◌-◌, ◌≤◌, ◌<◌}
 use native.Mathlib.Omega.{arith}
 use lib.ListN.{length, length-append}
-use Rattle.octets.specs.Parts.{put_at}
-use Rattle.octets.proofs.Lists.{put_put, put_nil}
-use Rattle.text.specs.Writing.{Room}
-use Rattle.text.proofs.Writing.{Wrote, wrote_length}
+use Rattle.text.specs.declared.inner.TextWriter.{TextWriter}
+use Rattle.text.specs.Writer.{HasRoom, Puts}
+use Rattle.text.proofs.Writing.{puts_none, room_first, room_then, puts_then}
 
--- of the text `whole`, to be put into l₀ at `at`, all but `rest` is put: the buffer is l and the place reached is p
-pub record Coming (at : ℕ) (whole l₀ : List ℕ) (p : ℕ) (rest l : List ℕ) : Type 0 where
-  pub is : put_at p rest l ≡ put_at at whole l₀
-  pub sum : p + length rest ≡ at + length whole
-  pub same : length l ≡ length l₀
-  pub room : at + length whole ≤ length l₀
+-- of the text `whole`, all but `rest` is put: the writer was w₀, and is w
+pub record Coming (whole : List ℕ) (w₀ : TextWriter) (w : TextWriter) (rest : List ℕ) : Type 0 where
+  pub done : List ℕ
+  pub all : done ++ rest ≡ whole
+  pub put : Puts done w₀ w
+  pub room : HasRoom whole w₀
 
-pub coming_start : {at : ℕ} {whole l : List ℕ} → Room at whole l → Coming at whole l at whole l
-coming_start r = record { is = refl; sum = refl; same = refl; room = r.fits }
+pub coming_start : {whole : List ℕ} (pieces : List ℕ) {w : TextWriter} → HasRoom whole w → whole ≡ pieces → Coming whole w w pieces
+coming_start pieces {w} r e = record { done = []; all = sym e; put = puts_none w; room = r }
 
-module _ {at : ℕ} {whole l₀ : List ℕ} {p : ℕ} {rest l : List ℕ} (k : Coming at whole l₀ p rest l) where
+module _ {whole : List ℕ} {w₀ w : TextWriter} where
   -- xs is the next piece
-  pub coming_room : (xs ys : List ℕ) → rest ≡ xs ++ ys → Room p xs l
-  coming_room xs ys e = let f = ap length e ∙ length-append xs ys in record { fits = omega (arith, f) }
+  module _ (xs ys : List ℕ) (k : Coming whole w₀ w (xs ++ ys)) where
+    pub coming_room : HasRoom xs w
+    coming_room = room_first xs ys (room_then k.done (xs ++ ys) (rw k.all k.room) k.put)
 
-  pub coming_put : (xs ys : List ℕ) → rest ≡ xs ++ ys → {l' : List ℕ} {q : ℕ} → Wrote p xs l l' q → Coming at whole l₀ q ys l'
-  coming_put xs ys e {l'} {q} w =
-      let f = ap length e ∙ length-append xs ys in
-      let r = coming_room xs ys e in
-      let n = w.0 in
-      record {
-        is = rw (n, w.1) (put_put p xs ys l r.fits) ∙ sym (ap (λ (z : List ℕ). put_at p z l) e) ∙ k.is;
-        sum = omega (arith, f, n);
-        same = wrote_length p xs l w r.fits ∙ k.same;
-        room = k.room;
-      }
+    pub coming_put : {w' : TextWriter} → Puts xs w w' → Coming whole w₀ w' ys
+    coming_put {w'} p =
+        let e : k.done ++ xs ++ ys ≡ whole = append_assoc k.done xs ys ∙ k.all in
+        let r : HasRoom (k.done ++ xs) w₀ = room_first (k.done ++ xs) ys (rw e k.room) in
+        record { done = k.done ++ xs; all = e; put = puts_then k.done xs r k.put p; room = k.room }
 
-  pub coming_done : rest ≡ [] → Wrote at whole l₀ l p
-  coming_done e =
-      let f : length rest ≡ 0 = ap length e in
-      (omega (arith, f), sym (put_nil p l) ∙ sym (ap (λ (z : List ℕ). put_at p z l) e) ∙ k.is)
+  pub coming_done : Coming whole w₀ w [] → Puts whole w₀ w
+  coming_done k = rw (← k.all, append-nil) k.put
 
 -- of the room for the text `whole`, what all but `rest` of it leaves is `left`
 pub record RoomLeft (room : ℕ) (whole : List ℕ) (left : ℕ) (rest : List ℕ) : Type 0 where
-  pub is : left - length rest ≡ room - length whole
+  pub is : left + length whole ≡ room + length rest
 
-pub room_left_start : (room : ℕ) (whole : List ℕ) → RoomLeft room whole room whole
-room_left_start room whole = record { is = refl }
+pub room_left_start : (room : ℕ) {whole : List ℕ} (pieces : List ℕ) → whole ≡ pieces → RoomLeft room whole room pieces
+room_left_start room pieces e = record { is = ap (λ (xs : List ℕ). room + length xs) e }
 
 module _ {room : ℕ} {whole : List ℕ} {left : ℕ} where
-  -- xs is the next piece
-  pub room_left_more : (xs rest : List ℕ) → RoomLeft room whole left (xs ++ rest) → {left' : ℕ} → left' ≡ left - length xs → RoomLeft room whole left' rest
-  room_left_more xs rest k e = let f = length-append xs rest in record { is = omega (arith, k.is, e, f) }
+  -- xs is the next piece, for which there is room or not
+  module _ (xs rest : List ℕ) (k : RoomLeft room whole left (xs ++ rest)) where
+    pub room_left_more : {left' : ℕ} → length xs ≤ left → left' ≡ left - length xs → RoomLeft room whole left' rest
+    room_left_more h e = let f = length-append xs rest in record { is = omega (arith, k.is, e, f, h) }
 
-  pub room_left_done : RoomLeft room whole left [] → left ≡ room - length whole
-  room_left_done k = omega (arith, k.is)
+    pub room_left_none : left < length xs → room < length whole
+    room_left_none h = let f = length-append xs rest in omega (arith, k.is, f, h)
+
+  pub room_left_done : RoomLeft room whole left [] → (length whole ≤ room) × (left ≡ room - length whole)
+  room_left_done k = (omega (arith, k.is), omega (arith, k.is))

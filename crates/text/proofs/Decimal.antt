@@ -1,71 +1,33 @@
 -- The laws of decimal digits: one more digit, how many there are, and the number that they spell. Assumes nothing.
-use mathlib.Core.Path.{◌≡◌, refl, sym, ap, ◌∙◌}
+use mathlib.Core.Path.{◌≡◌, refl, ap, ◌∙◌}
 use mathlib.Core.List.{List, [], ◌∷◌, ◌++◌}
 use mathlib.Core.Bool.{Bool, true, false, cond}
 use Prim.Native.Nat.{ℕ, zero, suc, ◌+◌, ◌-◌, ◌*◌, ◌/◌, ◌%◌, ◌^◌, ◌≤◌, ◌<◌}
 use native.Mathlib.Nat.{pow-suc}
 use native.Mathlib.Omega.{arith}
-use borrow.Author.Rules.{rules}
 use borrow.Author.Tests.{ltb-true, lt-ltb, le-ltb}
 use lib.Dec.{ltb}
 use lib.ListN.{length, length-append}
-use Rattle.text.specs.Writing.{Room}
 use Rattle.text.specs.Decimal.{decimal_of, decimal}
-use Rattle.text.proofs.Writing.{Wrote, wrote_none, wrote_then, wrote_length}
+
+-- no digit where there is room for none, one for a number below 10, else the digits of the tenth and one more
+pub no_digit : (k n : ℕ) → k ≡ 0 → decimal_of k n ≡ []
+unfolding decimal_of
+no_digit k n e = rw e
 
 module _ (k n : ℕ) (h : k ≡ 0 → ⊥) where
   some : k ≡ suc (k - 1)
   some = let g = h in omega (arith, g)
 
-  one_digit : n < 10 → decimal_of k n ≡ (48 + n) ∷ []
+  pub one_digit : n < 10 → decimal_of k n ≡ (48 + n) ∷ []
   unfolding decimal_of
   one_digit f = ap (λ (i : ℕ). decimal_of i n) some ∙ rw (lt-ltb n 10 f)
 
-  more_digits : 10 ≤ n → decimal_of k n ≡ decimal_of (k - 1) (n / 10) ++ ((48 + n % 10) ∷ [])
+  pub more_digits : 10 ≤ n → decimal_of k n ≡ decimal_of (k - 1) (n / 10) ++ ((48 + n % 10) ∷ [])
   unfolding decimal_of
   more_digits f = ap (λ (i : ℕ). decimal_of i n) some ∙ rw (le-ltb n 10 f)
 
-  one_length : n < 10 → length (decimal_of k n) ≡ 1
-  one_length f = rw (one_digit f)
-
-  more-length : 10 ≤ n → length (decimal_of k n) ≡ length (decimal_of (k - 1) (n / 10)) + 1
-  more-length f = rw (more_digits f, length-append)
-
-  pub wrote_one : (at x : ℕ) (l : List ℕ) {l' : List ℕ} {p : ℕ} → n < 10 → Wrote at (x ∷ []) l l' p → x ≡ 48 + n → Wrote at (decimal_of k n) l l' p
-  wrote_one at x l f w e = rw (one_digit f, ← e) w
-
-  pub wrote_more :
-      (at x : ℕ) (l : List ℕ) {l' l'' : List ℕ} {p q : ℕ} →
-      10 ≤ n →
-      Wrote at (decimal_of (k - 1) (n / 10)) l l' p →
-      Wrote p (x ∷ []) l' l'' q →
-      x ≡ 48 + n % 10 →
-      Room at (decimal_of k n) l →
-      Wrote at (decimal_of k n) l l'' q
-  wrote_more at x l f a b e r = let m = more-length f in rw (more_digits f, ← e) (wrote_then at (decimal_of (k - 1) (n / 10)) (x ∷ []) l a b (omega (arith, m)))
-
-pub wrote_zero : (k n at : ℕ) (l : List ℕ) → k ≡ 0 → Wrote at (decimal_of k n) l l at
-unfolding decimal_of
-wrote_zero k n at l e = rw e (wrote_none at l)
-
-pub room_one : {k n at x : ℕ} {l : List ℕ} → (k ≡ 0 → ⊥) → n < 10 → Room at (decimal_of k n) l → Room at (x ∷ []) l
-room_one {k} {n} h f r = let e = one_length k n h f in record { fits = omega (arith, e) }
-
-pub room_more : {k n at : ℕ} {l : List ℕ} → (k ≡ 0 → ⊥) → 10 ≤ n → Room at (decimal_of k n) l → Room at (decimal_of (k - 1) (n / 10)) l
-room_more {k} {n} h f r = let e = more-length k n h f in record { fits = omega (arith, e) }
-
-pub room_last : {k n at x : ℕ} {l l' : List ℕ} {p : ℕ}
-    → Wrote at (decimal_of (k - 1) (n / 10)) l l' p → (k ≡ 0 → ⊥) → 10 ≤ n → Room at (decimal_of k n) l → Room p (x ∷ []) l'
-room_last {k} {n} {at} {x} {l} w h f r =
-    let e = more-length k n h f in
-    let b = wrote_length at (decimal_of (k - 1) (n / 10)) l w (omega (arith, e)) in
-    let m = w.0 in
-    record { fits = omega (arith, e, b) }
-
--- what `search` needs for what `put_digits` asks of the functions that it calls
-pub ruleset digits = (room_one, room_more, room_last, rules)
-
-digits_short : (k n : ℕ) → length (decimal_of k n) ≤ k
+pub digits_short : (k n : ℕ) → length (decimal_of k n) ≤ k
 unfolding decimal_of
 digits_short zero n = omega arith
 digits_short (suc k) n = go (ltb n 10) refl (digits_short k (n / 10))
@@ -74,22 +36,11 @@ digits_short (suc k) n = go (ltb n 10) refl (digits_short k (n / 10))
     go true e h = rw e (omega arith)
     go false e h = rw (e, length-append) (omega (arith, h))
 
--- what `count_digits` counts
-pub counted_none : (k n : ℕ) → k ≡ 0 → 0 ≡ length (decimal_of k n)
-unfolding decimal_of
-counted_none k n e = rw e
-
-pub counted_one : (k n : ℕ) → (k ≡ 0 → ⊥) → n < 10 → 1 ≡ length (decimal_of k n)
-counted_one k n h f = sym (one_length k n h f)
-
-pub counted-more : (k n : ℕ) → (k ≡ 0 → ⊥) → 10 ≤ n → {r : ℕ} → r ≡ length (decimal_of (k - 1) (n / 10)) → r + 1 ≡ length (decimal_of k n)
-counted-more k n h f e = rw e (sym (more-length k n h f))
-
-pub counted_short : (k n : ℕ) {r : ℕ} → r ≡ length (decimal_of k n) → r ≤ k
-counted_short k n e = rw e (digits_short k n)
-
 pub decimal_short : (n : ℕ) → length (decimal n) ≤ 20
 decimal_short n = digits_short 20 n
+
+-- what counts the digits needs
+pub ruleset counted = (no_digit, one_digit, more_digits, digits_short, length-append)
 
 -- the number that a, followed by the decimal digits xs, spells
 unfoldable pub spelt : ℕ → List ℕ → ℕ

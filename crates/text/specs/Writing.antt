@@ -1,6 +1,6 @@
--- A word of text, the room that a piece of text takes, and a text that is measured. Assumes nothing: these are
+-- A word of text, and a text that is measured. Assumes nothing: these are
 -- definitions.
-use Rattle.std.specs.Prelude.{Result, Ok, Err, ℕ, ◌≡◌, ◌+◌, ◌≤◌, cond, List, [], ◌∷◌, length, take, eqb, ltb}
+use Rattle.std.specs.Prelude.{Result, Ok, Err, ℕ, ◌≡◌, ◌≤◌, cond, List, [], ◌∷◌, length, take, eqb, ltb}
 use Rattle.answers.specs.declared.Refusal.{Refusal}
 use Rattle.answers.specs.Causes.{number}
 use Rattle.answers.specs.Answer.{Answer, Accepted, Refused, when, accepted_or}
@@ -8,10 +8,6 @@ use Rattle.answers.specs.Answer.{Answer, Accepted, Refused, when, accepted_or}
 -- 'An empty name, key or insert is "-"'
 unfoldable pub or_dash : List ℕ → List ℕ
 or_dash xs = cond (eqb (length xs) 0) (45 ∷ []) xs
-
--- what a function that puts xs at place `at` of a list asks: that there is room for it
-pub record Room (at : ℕ) (xs list : List ℕ) : Type 0 where
-  pub fits : at + length xs ≤ length list
 
 -- the result of a call that puts a text: its answer, and the text, none where it refuses
 pub record Fitted : Type 0 where

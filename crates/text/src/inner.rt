@@ -1,18 +1,90 @@
-// A function that puts text asks for the room that it fills, which the crates above have measured, and answers the
-// place after what it put. The others measure.
-ghost use Rattle.std.specs.Prelude.{◌≡◌, [], ◌∷◌, ◌+◌, ◌-◌, ◌≤◌, ◌<◌, length};
+// Text that is put into a lent buffer piece by piece. What puts a piece asks for its room, which the crates above have
+// measured.
+ghost use Rattle.std.specs.Prelude.{◌≡◌, ◌↔◌, IfOk, IsTrue, SomeIff, ℕ, List, [], ◌∷◌, ◌+◌, ◌-◌, ◌≤◌, ◌<◌, length};
 ghost use Rattle.octets.specs.Parts.{put_at};
-ghost use Rattle.text.specs.Writing.{Room, or_dash};
+ghost use Rattle.text.specs.Writing.{IsPrefixLen, fitted, or_dash, written, written_of};
 ghost use Rattle.text.specs.Decimal.{decimal, decimal_of};
+ghost use Rattle.text.specs.Writer.{HasRoom, Puts};
 
-// Puts the byte x at `at`.
-pub fn put_byte(out: &mut [u8], at: usize, x: u8) -> usize
-    requires { Room at (x ∷ []) out.old }
-    ensures value { result ≡ at + 1 }
-    ensures out_after { out.new ≡ put_at at (x ∷ []) out.old }
-{
-    out[at] = x;
-    at + 1
+use answers::{Cause, Refusal};
+
+// A lent buffer, and the place that the text in it has come to.
+#[derive(Drop)]
+pub struct TextWriter<'a> {
+    out: &'a mut [u8],
+    at: usize,
+}
+
+impl<'a> TextWriter<'a> {
+    pub fn new(out: &'a mut [u8]) -> TextWriter<'a>
+        ensures same_buffer { result.out.ghost_name ≡ out.entry.ghost_name }
+        ensures out_value { result.out.now ≡ out.old }
+        ensures at_value { result.at ≡ 0 }
+    {
+        TextWriter { out, at: 0 }
+    }
+
+    // The length of the text.
+    pub fn length(&self) -> usize
+        ensures { result ≡ self.now.at }
+    {
+        self.at
+    }
+
+    pub fn put_byte(&mut self, x: u8)
+        requires { HasRoom (x ∷ []) self.old }
+        ensures { Puts (x ∷ []) self.old self.new }
+    {
+        self.out[self.at] = x;
+        self.at += 1;
+    }
+
+    // Puts all bytes of `source`.
+    pub fn put_bytes(&mut self, source: &[u8])
+        requires { HasRoom source.now self.old }
+        ensures { Puts source.now self.old self.new }
+    {
+        let n = source.len();
+        buffers::inner::copy(self.out, self.at, source, 0, n);
+        self.at += n;
+    }
+
+    // Puts all bytes of `source`, or "-" where it has none.
+    #[tactic(auto, using(crate::proofs::Writing::dash, crate::proofs::Writing::word))]
+    pub fn put_or_dash(&mut self, source: &[u8])
+        requires { HasRoom (or_dash source.now) self.old }
+        ensures { Puts (or_dash source.now) self.old self.new }
+    {
+        if source.is_empty() {
+            self.put_byte(b'-');
+        } else {
+            self.put_bytes(source);
+        }
+    }
+
+    // Puts n's decimal digits, the last `most` of them.
+    #[tactic(auto, using(crate::proofs::Decimal::counted, crate::proofs::Writing::puts_none, crate::proofs::Writing::room_first))]
+    fn put_digits(&mut self, most: usize, n: usize)
+        requires { HasRoom (decimal_of most n) self.old }
+        ensures { Puts (decimal_of most n) self.old self.new }
+    {
+        if most == 0 {
+            return;
+        }
+        if n < 10 {
+            return self.put_byte(digit_byte(n));
+        }
+        self.put_digits(most - 1, n / 10);
+        self.put_byte(digit_byte(n % 10));
+    }
+
+    // Puts n in decimal.
+    pub fn put_number(&mut self, n: usize)
+        requires { HasRoom (decimal n) self.old }
+        ensures { Puts (decimal n) self.old self.new }
+    {
+        self.put_digits(20, n)
+    }
 }
 
 fn digit_byte(digit: usize) -> u8
@@ -22,55 +94,8 @@ fn digit_byte(digit: usize) -> u8
     48 + (digit as u8)
 }
 
-// Puts n's decimal digits, the last `most` of them.
-fn put_digits(out: &mut [u8], at: usize, most: usize, n: usize) -> usize
-    requires { Room at (decimal_of most n) out.old }
-    ensures value { result ≡ at + length (decimal_of most n) }
-    ensures out_after { out.new ≡ put_at at (decimal_of most n) out.old }
-{
-    if most == 0 {
-        return at;
-    }
-    if n < 10 {
-        return put_byte(out, at, digit_byte(n));
-    }
-    let last = put_digits(out, at, most - 1, n / 10);
-    put_byte(out, last, digit_byte(n % 10))
-}
-
-// Puts n in decimal.
-pub fn put_number(out: &mut [u8], at: usize, n: usize) -> usize
-    requires { Room at (decimal n) out.old }
-    ensures value { result ≡ at + length (decimal n) }
-    ensures out_after { out.new ≡ put_at at (decimal n) out.old }
-{
-    put_digits(out, at, 20, n)
-}
-
-// Puts all bytes of `source`.
-pub fn put_bytes(out: &mut [u8], at: usize, source: &[u8]) -> usize
-    requires { Room at source.now out.old }
-    ensures value { result ≡ at + length source.now }
-    ensures out_after { out.new ≡ put_at at source.now out.old }
-{
-    let n = source.len();
-    buffers::inner::copy(out, at, source, 0, n);
-    at + n
-}
-
-// Puts all bytes of `source`, or "-" where it has none.
-pub fn put_or_dash(out: &mut [u8], at: usize, source: &[u8]) -> usize
-    requires { Room at (or_dash source.now) out.old }
-    ensures value { result ≡ at + length (or_dash source.now) }
-    ensures out_after { out.new ≡ put_at at (or_dash source.now) out.old }
-{
-    if source.len() == 0 {
-        return put_byte(out, at, b'-');
-    }
-    put_bytes(out, at, source)
-}
-
 // How many digits `put_digits` puts.
+#[tactic(auto, using(crate::proofs::Decimal::counted))]
 fn count_digits(most: usize, n: usize) -> usize
     ensures { result ≡ length (decimal_of most n) }
 {
@@ -84,6 +109,7 @@ fn count_digits(most: usize, n: usize) -> usize
 }
 
 // How many bytes `put_number` puts.
+#[tactic(auto, using(crate::proofs::Decimal::decimal_short))]
 pub fn number_length(n: usize) -> usize
     ensures value { result ≡ length (decimal n) }
     ensures upper_bound { result ≤ 20 }
@@ -92,6 +118,7 @@ pub fn number_length(n: usize) -> usize
 }
 
 // How many bytes `put_or_dash` puts.
+#[tactic(auto, using(crate::proofs::Writing::dash, crate::proofs::Writing::word))]
 pub fn word_length(source: &[u8]) -> usize
     ensures { result ≡ length (or_dash source.now) }
 {
@@ -102,12 +129,37 @@ pub fn word_length(source: &[u8]) -> usize
     n
 }
 
-// What is left of so much room once n bytes are taken from it, 0 where they are more: no sum of lengths can wrap.
-pub fn room_after(room: usize, n: usize) -> usize
-    ensures { result ≡ room - n }
-{
-    if room < n {
-        return 0;
+// A text that is measured before it is put.
+pub trait Text {
+    ghost text: { Self → List ℕ };
+
+    // What it leaves of so much room, if that is enough.
+    fn left_of(&self, room: usize) -> Option<usize>
+        ensures { SomeIff result (length (text self.now) ≤ room) (room - length (text self.now)) };
+
+    fn put(&self, writer: &mut TextWriter)
+        requires { HasRoom (text self.now) writer.old }
+        ensures { Puts (text self.now) writer.old writer.new };
+
+    // Whether so much room is enough.
+    fn fits(&self, room: usize) -> bool
+        ensures { IsTrue result ↔ (length (text self.now) ≤ room) }
+    {
+        self.left_of(room).is_some()
     }
-    room - n
+}
+
+// Puts a text at the front of `out` and answers its length; 26 exactly if `out` is shorter.
+#[tactic(auto, using(crate::proofs::Fitted::fits, crate::proofs::Fitted::fits_not, octets::proofs::Lists::put_nil))]
+pub fn write_text<T: Text>(text: &T, out: &mut [u8]) -> Result<usize, Refusal>
+    ensures value { written_of result ≡ written (fitted (length out.old) (T.text text.now)) }
+    ensures out_after { out.new ≡ put_at 0 (fitted (length out.old) (T.text text.now)).text out.old }
+    ensures prefix_len { IfOk result (λ n. IsPrefixLen n out.new) }
+{
+    if !text.fits(out.len()) {
+        return Err(Refusal(Cause::NoRoom, 0));
+    }
+    let mut writer = TextWriter::new(out);
+    text.put(&mut writer);
+    Ok(writer.length())
 }

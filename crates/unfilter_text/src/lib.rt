@@ -2,59 +2,45 @@
 
 #![tactic(auto)]
 
-ghost use Rattle.std.specs.Prelude.{◌≡◌, length, replicate};
+ghost use Rattle.std.specs.Prelude.{◌≡◌, IfOk, length, replicate};
 ghost use Rattle.octets.specs.Parts.{filled};
-ghost use Rattle.filter_format.specs.Undo.{room_of, second_after, undo};
-ghost use Rattle.text.specs.Writing.{IsPrefixLen, written};
-ghost use Rattle.lines.specs.Lines.{too_long};
-ghost use Rattle.unfilter_text.specs.Unfiltering.{text_of, printed_by, TextHeld};
+ghost use Rattle.filter_format.specs.Undo.{second_after};
+ghost use Rattle.text.specs.Writing.{IsPrefixLen, fitted, written, written_of};
+ghost use Rattle.unfilter_text.specs.Unfiltering.{printed_by};
 
+use answers::Refusal;
 use buffers::inner::clear_behind;
 use filter_undo::undo;
-use lines::inner::{write_refusal, write_too_long};
-use text::Written;
+use lines::inner::{RefusalLine, TooLong};
+use text::inner::{Text, write_text};
 
-// Puts a block's data, or the line of its refusal.
-fn put_undone(block: &[u8], first: &mut [u8], second: &mut [u8]) -> Written
-    ensures { TextHeld (text_of (undo (room_of first.old second.old) block.now))
-        first.old first.new second.old second.new result }
+// Puts a text at the front of `first`, if it fits, and zeros behind it.
+fn write_cleared<T: Text>(text: &T, first: &mut [u8]) -> Result<usize, Refusal>
+    ensures value { written_of result ≡ written (fitted (length first.old) (T.text text.now)) }
+    ensures first_after { first.new ≡ filled (length first.old) (fitted (length first.old) (T.text text.now)).text }
+    ensures prefix_len { IfOk result (λ n. IsPrefixLen n first.new) }
 {
-    let result = undo(block, first, second);
-    let answer = result.answer;
-    let Answer::Refused(number, place) = answer else {
-        return Written {
-            answer: Ok(()),
-            length: result.made,
-        };
-    };
-    let written = write_refusal(first, number as usize, place);
-    clear_behind(first, written.length);
-    written
-}
-
-// Puts the line of an input that is too long.
-fn put_long(first: &mut [u8], second: &mut [u8]) -> Written
-    ensures { TextHeld too_long
-        first.old first.new second.old second.new result }
-{
-    let written = write_too_long(first);
-    clear_behind(first, written.length);
-    clear_behind(second, 0);
+    let written = write_text(text, first);
+    clear_behind(first, written.unwrap_or(0));
     written
 }
 
 // Puts what `unfilter` prints of an input at the front of `first`, and answers its length; 26 exactly if `first` is
 // shorter. The rest of `first`, and `second`, are zero then.
-pub fn print(input: &[u8], first: &mut [u8], second: &mut [u8]) -> Written
-    ensures value { result ≡ written (printed_by first.old second.old input.now) }
+pub fn print(input: &[u8], first: &mut [u8], second: &mut [u8]) -> Result<usize, Refusal>
+    ensures value { written_of result ≡ written (printed_by first.old second.old input.now) }
     ensures first_after { first.new ≡ filled (length first.old) (printed_by first.old second.old input.now).text }
     ensures second_after { second.new ≡ second_after second.old }
-    ensures prefix_len { IsPrefixLen result.length first.new }
+    ensures prefix_len { IfOk result (λ n. IsPrefixLen n first.new) }
 {
     if input.len() > 65536 {
-        return put_long(first, second);
+        clear_behind(second, 0);
+        return write_cleared(&TooLong, first);
     }
-    put_undone(input, first, second)
+    match undo(input, first, second) {
+        Ok(made) => Ok(made),
+        Err(refusal) => write_cleared(&RefusalLine::from(refusal), first),
+    }
 }
 
 // A buffer for undoing what `unfilter` reads: four times the input, the most that one layer of format 71 makes of it.

@@ -11,17 +11,17 @@ returns-in_err-new_test-clause-value c =
 pub returns-in_err-new_test-clause-buffer_after : goal.returns-in_err-new_test-clause-buffer_after
 returns-in_err-new_test-clause-buffer_after c = (new_refused _ _ _ c.in_err-new_test.ensures).1
 
-pub put_new_header-requires-clause-key_len_bound : goal.put_new_header-requires-clause-key_len_bound
-put_new_header-requires-clause-key_len_bound c = new-small _ _ _ c.in_ok-new_test.ensures
+pub put-requires-clause-key_len_bound : goal.put-requires-clause-key_len_bound
+put-requires-clause-key_len_bound c = new-small _ _ _ c.in_ok-new_test.ensures
 
-pub put_new_header-requires-clause-key_in_bounds : goal.put_new_header-requires-clause-key_in_bounds
-put_new_header-requires-clause-key_in_bounds c = new_room _ _ _ c.in_ok-new_test.ensures
+pub put-requires-clause-in_bounds : goal.put-requires-clause-in_bounds
+put-requires-clause-in_bounds c = new_room _ _ _ c.in_ok-new_test.ensures
 
-pub header_size-requires : goal.header_size-requires
-header_size-requires c = new-small _ _ _ c.in_ok-new_test.ensures
+pub size-requires : goal.size-requires
+size-requires c = new-small _ _ _ c.in_ok-new_test.ensures
 
 pub returns-clause-value : goal.returns-clause-value
-returns-clause-value c = new-outcome _ _ _ c.in_ok-new_test.ensures c.header_size.ensures
+returns-clause-value c = new-outcome _ _ _ c.in_ok-new_test.ensures c.size.ensures
 
 pub returns-clause-buffer_after : goal.returns-clause-buffer_after
-returns-clause-buffer_after c = new-buffer _ _ _ c.in_ok-new_test.ensures c.put_new_header.ensures
+returns-clause-buffer_after c = new-buffer _ _ _ c.in_ok-new_test.ensures c.put.ensures

@@ -4,17 +4,17 @@ use Rattle.sff_format.specs.Writing.{new_test}
 use Rattle.sff_writer.proofs.Reasons.{either_told, new_over, new-within}
 use Rattle.sff_writer.proofs.new_test.Goals as goal
 
-pub returns-then-flows-key-gt-MOST_CHARACTERS : goal.returns-then-flows-key-gt-MOST_CHARACTERS
+pub returns-then-header-gt-MOST_CHARACTERS : goal.returns-then-header-gt-MOST_CHARACTERS
 unfolding new_test
-returns-then-flows-key-gt-MOST_CHARACTERS c = search refusal
+returns-then-header-gt-MOST_CHARACTERS c = search refusal
 
 pub returns-then-fails : goal.returns-then-fails
 unfolding new_test
 returns-then-fails c = search (refusal, either_told)
 
-pub returns-then-room-header_size : goal.returns-then-room-header_size
+pub returns-then-room-size : goal.returns-then-room-size
 unfolding new_test
-returns-then-room-header_size c = search (refusal, either_told, new_over)
+returns-then-room-size c = search (refusal, either_told, new_over)
 
 pub returns : goal.returns
 unfolding new_test

@@ -1,7 +1,9 @@
--- x
-use mathlib.Core.Path.{refl}
+-- The part that is written holds the source, and the rest of the buffer is as it was.
+use native.Mathlib.Omega.{arith}
+use Rattle.buffers.proofs.Written.{written}
 use Rattle.sff_sections.proofs.inner.put_bytes.Goals as goal
-use Rattle.sff_sections.proofs.Pieces.{mid_put}
 
 pub returns : goal.returns
-returns c = mid_put _ _ _ c.copy_from_slice.ensures.after refl
+returns c =
+    let a = c.args in
+    written a.at _ a.buffer.now _ _ c.copy_from_slice.ensures.after (omega arith)

@@ -31,8 +31,8 @@ pub fn put_followed(out: &mut [u8], at: usize, source: &[u8], follow: &[u8])
     };
     out[at] = *first;
     let mut previous = *first;
-    for (j, byte) in rest.iter().enumerate() {
-        out[at + 1 + j] = follow[usize::from(previous)].wrapping_sub(*byte);
-        previous = *byte;
+    for (j, &byte) in rest.iter().enumerate() {
+        out[at + 1 + j] = follow[usize::from(previous)].wrapping_sub(byte);
+        previous = byte;
     }
 }

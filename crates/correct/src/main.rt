@@ -48,10 +48,8 @@ fn deliver(
     outcome: ListOutcome,
     buffer: &[u8],
 ) -> io::Result<()> {
-    if correct_text::is_written(outcome) {
-        if !save(rt, 3, whole_part(buffer, 0, outcome.length)) {
-            return Ok(());
-        }
+    if correct_text::is_written(outcome) && !save(rt, 3, whole_part(buffer, 0, outcome.length)) {
+        return Ok(());
     }
     let mut text = correct_text::report_room();
     let written = correct_text::report(outcome, &mut text);

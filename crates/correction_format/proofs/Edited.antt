@@ -4,16 +4,14 @@ use Prim.Native.Nat.{ℕ, ◌≤◌, ◌<◌}
 use mathlib.Core.Path.{◌≡◌, refl, sym, ap, ◌∙◌}
 use mathlib.Core.Bool.{Bool, true, false, not, ◌&&◌, true≢false}
 use mathlib.Core.Logic.{inl, inr}
-use mathlib.Core.List.{List, [], ◌∷◌, append_assoc}
+use mathlib.Core.List.{List, append_assoc}
 use native.Mathlib.Omega.{arith}
-use lib.Dec.{ltb}
 use lib.ListN.{length, take, length-append}
 use lib.Seq.{length-take-le, take_at}
-use borrow.Author.Tests.{lt-ltb, ltb-true, ltb-false, not-false}
+use borrow.Author.Tests.{ltb-true, ltb-false, not-false}
 use Rattle.answers.specs.Answer.{Answer, Accepted, Refused, accepted_or}
 use Rattle.answers.proofs.Answers.{first-ok, second-ok, under_ok}
 use Rattle.answers.proofs.Rows.{NoneOf, none_of}
-use Rattle.sff_format.specs.Rules.{declared}
 use Rattle.sff_format.specs.Model.{Read, File, no_index, layout_read_header, layout_read_data, layout_read, layout_header, layout}
 use Rattle.sff_format.specs.Valid.{ValidRead, Valid}
 use Rattle.sff_format.specs.ReadTest.{clip_test}
@@ -22,7 +20,7 @@ use Rattle.sff_format.proofs.Sizes.{length_head, length_header}
 use Rattle.sff_format.proofs.Keeps.{no_index_lem, valid_at, valid_changed, valid_gone}
 use Rattle.correction_format.specs.Correction.{Change, clips, rename, remove, Correction, is_clips, ValidName, ValidChange, ValidCorrection}
 use Rattle.correction_format.specs.Edit.{clipped, renamed, replacement, target, edited}
-use Rattle.correction_format.specs.Reasons.{has_target, clips_above, position_above, other_name, index_present, clip_above, name_taken, no_room, reason_rows, reasons}
+use Rattle.correction_format.specs.Reasons.{has_target, clips_above, position_above, index_present, clip_above, no_room, reason_rows, reasons}
 
 -- new clips do not change the size of a read
 module _ (a b c d : ℕ) (x : Read) where

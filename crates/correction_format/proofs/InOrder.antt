@@ -1,6 +1,6 @@
 -- A correction is answered for the first reason that holds in document 01's order; and with one of its numbers. Assumes
 -- nothing.
-use Prim.Native.Nat.{ℕ, zero, suc, ◌+◌, ◌-◌, ◌≤◌, ◌<◌}
+use Prim.Native.Nat.{ℕ, zero, suc, ◌+◌, ◌-◌, ◌<◌}
 use mathlib.Core.Path.{◌≡◌, refl, sym, ap, ◌∙◌}
 use mathlib.Core.Bool.{Bool, true, false, not, ◌&&◌, ◌||◌, true≢false}
 use mathlib.Core.Logic.{◌↔◌}
@@ -15,7 +15,7 @@ use Rattle.octets.specs.Numbers.{Bytes}
 use Rattle.octets.proofs.Same.{same_is, is_same}
 use Rattle.octets.proofs.AllBytes.{bytes_take}
 use Rattle.answers.specs.Answer.{Answer, Accepted, Refused, number_of, accepted_or, ◌then◌, Refusing, among, Among}
-use Rattle.answers.proofs.Answers.{not-accepted, first-ok, second-ok, both_ok, under_ok, ok_under, when-ok, or_left, or_right, cond_keeps}
+use Rattle.answers.proofs.Answers.{not-accepted, first-ok, second-ok, both_ok, under_ok, ok_under, or_left, or_right, cond_keeps}
 use Rattle.answers.proofs.Numbered.{zero_accepted, then-refusing, when-refusing, more_numbers}
 use Rattle.answers.proofs.Reasons.{Tests, when_tests, Judged, chain_judged}
 use Rattle.answers.specs.Rows.{RowByRow}

@@ -13,10 +13,18 @@ pub struct ListOutcome {
     pub length: usize,
 }
 
+// What a record asks for, with its number.
+#[derive(Clone, Copy, Debug, PartialEq, Eq)]
+pub enum Kind {
+    Clips = 1,
+    Rename = 2,
+    Remove = 3,
+}
+
 // A well-formed record's fields but for its names, read once.
 #[derive(Clone, Copy)]
 pub struct Fields {
-    pub kind: u8,
+    pub kind: Kind,
     pub position: usize,
     pub old_length: usize,
     pub new_length: usize,

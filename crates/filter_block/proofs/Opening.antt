@@ -8,7 +8,6 @@ use Rattle.octets.specs.Parts.{part, put_at}
 use Rattle.octets.proofs.Lists.{put_nil, length_part}
 use Rattle.filter_format.specs.declared.Filter.{Filter}
 use Rattle.filter_format.specs.declared.Filter.TheVariants.{Raw, Delta, Narrow, Follow, Other}
-use Rattle.filter_format.specs.Units.{IsWidth}
 use Rattle.filter_format.specs.Delta.{undelta_bytes}
 use Rattle.filter_format.specs.Narrow.{widen, lacking}
 use Rattle.filter_format.specs.Follow.{unfollowed}
@@ -55,23 +54,22 @@ module _ (b out : List ℕ) where
     whole : length (data_at (Delta w) b) % w ≡ 0
     whole = whole_data w (data_at (Delta w) b) o.2
 
-    pub delta_given : (IsWidth w) × (length s % w ≡ 0) × (0 + length s ≤ length out)
-    unfolding undone
-    delta_given =
-        let n = length_delta_undone (level_at b) (follow_at b) (data_at (Delta w) b) w o.0 whole in
-        let l : length s ≡ length (data_at (Delta w) b) = ap length same in
-        (o.0, ap (λ (n : ℕ). n % w) l ∙ whole, omega (arith, n, l, o.3))
+    -- k is the width of the arm that is taken
+    module _ (k : ℕ) (is : w ≡ k) where
+      pub delta_given : (length s % k ≡ 0) × (0 + length s ≤ length out)
+      unfolding undone
+      delta_given =
+          let n = length_delta_undone (level_at b) (follow_at b) (data_at (Delta w) b) w o.0 whole in
+          let l : length s ≡ length (data_at (Delta w) b) = ap length same in
+          rw (← is) (ap (λ (n : ℕ). n % w) l ∙ whole, omega (arith, n, l, o.3))
 
-    pub delta_put : (level : ℕ) (out' : List ℕ) → level ≡ level_at b → out' ≡ put_at 0 (undelta_bytes w level s) out
-        → Put (Delta w) b (length b - start) out out'
-    unfolding undone decoded
-    delta_put level out' l h =
-        let xs : undone (Delta w) b ≡ undelta_bytes w level s = rw (l, same) in
-        let n : length (undone (Delta w) b) ≡ length (data_at (Delta w) b) =
-        length_delta_undone (level_at b) (follow_at b) (data_at (Delta w) b) w o.0 whole in
-        let d : length (data_at (Delta w) b) ≡ length b - start =
-        length-drop (header_length (Delta w)) b ∙ ap (λ (k : ℕ). length b - k) (sym e) in
-        (sym (n ∙ d), h ∙ ap (λ (t : List ℕ). put_at 0 t out) (sym xs))
+      pub delta_put : (level : ℕ) (out' : List ℕ) → level ≡ level_at b → out' ≡ put_at 0 (undelta_bytes k level s) out
+          → Put (Delta w) b (length s) out out'
+      unfolding undone decoded
+      delta_put level out' l h =
+          let xs : undone (Delta w) b ≡ undelta_bytes k level s = rw (← is, l, same) in
+          let n = length_delta_undone (level_at b) (follow_at b) (data_at (Delta w) b) w o.0 whole in
+          (ap length same ∙ sym n, h ∙ ap (λ (t : List ℕ). put_at 0 t out) (sym xs))
 
   -- formats 70 and 71
   module _ (w : ℕ) (o : Undoable (Narrow w) b (length out)) where
@@ -83,17 +81,17 @@ module _ (b out : List ℕ) where
     unfolding undone decoded header_length
     narrow_is = ap (widen w 0) (sym (part_end 1 b))
 
-    pub narrow_given : (IsWidth w) × (lacking w 0 behind ≡ 0) × (length (widen w 0 behind) ≤ length out)
-    unfolding header_length
-    narrow_given = (
-      o.0.0,
-      ap (lacking w 0) (part_end 1 b) ∙ none_lacking w (drop 1 b) o.2,
-      subst (λ (xs : List ℕ). length xs ≤ length out) narrow_is o.3,
-    )
+    module _ (k : ℕ) (is : w ≡ k) where
+      pub narrow_given : (lacking k 0 behind ≡ 0) × (length (widen k 0 behind) ≤ length out)
+      unfolding header_length
+      narrow_given = rw (← is) (
+        ap (lacking w 0) (part_end 1 b) ∙ none_lacking w (drop 1 b) o.2,
+        subst (λ (xs : List ℕ). length xs ≤ length out) narrow_is o.3,
+      )
 
-    pub narrow_put : (r : ℕ) (out' : List ℕ) → r ≡ length (widen w 0 behind) → out' ≡ put_at 0 (widen w 0 behind) out
-        → Put (Narrow w) b r out out'
-    narrow_put r out' l h = put_as (Narrow w) b (widen w 0 behind) out out' r narrow_is l h
+      pub narrow_put : {r : ℕ} {out' : List ℕ} → r ≡ length (widen k 0 behind) → out' ≡ put_at 0 (widen k 0 behind) out
+          → Put (Narrow w) b r out out'
+      narrow_put {r} {out'} l h = put_as (Narrow w) b (widen k 0 behind) out out' r (narrow_is ∙ ap (λ (n : ℕ). widen n 0 behind) is) l h
 
   -- format 72
   module _ (o : Undoable Follow b (length out)) where

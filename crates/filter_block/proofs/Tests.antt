@@ -18,7 +18,7 @@ use Rattle.filter_format.specs.Units.{IsWidth}
 use Rattle.filter_format.specs.Narrow.{lacking}
 use Rattle.filter_format.specs.Block.{header_length, level_at, follow_at, data_at, bad_data, decoded, undone}
 use Rattle.filter_format.proofs.Blocks.{none_lacking, length_raw, length_delta_undone, decoded-narrow, length_follow_undone}
-use Rattle.filter_narrow.specs.declared.Counted.TheVariants.{Units, Lacking}
+use Rattle.std.specs.Prelude.{Some, None}
 use Rattle.filter_narrow.specs.Counted.{begun, counted}
 use Rattle.filter_narrow.proofs.Begun.{length_widened}
 use Rattle.filter_block.specs.Tests.{data_test}
@@ -49,12 +49,12 @@ module _ (f : Filter) (room : ℕ) (b : List ℕ) where
   data_good n e l = passes _ _ _ _ e (rw l)
 
 -- what a count tells
-lacking_told : (t : Bool) (m : ℕ) → Lacking ≡ cond t Lacking (Units m) → t ≡ true
+lacking_told : (t : Bool) (m : ℕ) → None ≡ cond t None (Some m) → t ≡ true
 lacking_told true m e = refl
-lacking_told false m e = let z : ◌≡◌ {A = ℕ} 0 1 = cc in absurd (omega arith)
+lacking_told false m e = cc
 
-units_told : (t : Bool) (n m : ℕ) → Units n ≡ cond t Lacking (Units m) → (t ≡ false) × (n ≡ m)
-units_told true n m e = let z : ◌≡◌ {A = ℕ} 0 1 = cc in absurd (omega arith)
+units_told : (t : Bool) (n m : ℕ) → Some n ≡ cond t None (Some m) → (t ≡ false) × (n ≡ m)
+units_told true n m e = cc
 units_told false n m e = (refl, cc)
 
 module _ (room : ℕ) (b : List ℕ) where
@@ -90,11 +90,11 @@ module _ (room : ℕ) (b : List ℕ) where
         (length_delta_undone (level_at b) (follow_at b) (data_at (Delta w) b) w k whole ∙ long)
 
   module _ (w : ℕ) where
-    pub narrow-lacking : Lacking ≡ counted w (drop 1 b) → Refused 43 0 ≡ data_test (Narrow w) room b
+    pub narrow-lacking : None ≡ counted w (drop 1 b) → Refused 43 0 ≡ data_test (Narrow w) room b
     unfolding counted bad_data header_length
     narrow-lacking e = data_bad (Narrow w) room b (lacking_told _ (begun w 0 (drop 1 b)) e)
 
-    pub narrow_units : (n : ℕ) → Units n ≡ counted w (drop 1 b) → when (ltb room (n * w)) 26 0 ≡ data_test (Narrow w) room b
+    pub narrow_units : (n : ℕ) → Some n ≡ counted w (drop 1 b) → when (ltb room (n * w)) 26 0 ≡ data_test (Narrow w) room b
     unfolding counted bad_data header_length undone
     narrow_units n e =
         let k = units_told (ltb 0 (lacking w 0 (drop 1 b))) n (begun w 0 (drop 1 b)) e in

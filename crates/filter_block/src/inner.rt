@@ -13,90 +13,66 @@ use buffers::inner::copy;
 use filter_delta::inner::put_undelta;
 use filter_follow::inner::put_unfollowed;
 use filter_format::Filter;
-use filter_narrow::Counted;
 use filter_narrow::inner::{count_units, put_widened};
+use octets::ByteTest;
 use octets::inner::first_not;
-use octets::{ByteTest, wide};
 
 // What a format stands for.
+#[tactic(auto, unfolding(filter_format::specs::Block::filter_of))]
 pub fn filter_of(format: usize) -> Filter
     ensures { result ≡ filter_of format }
 {
-    if format == 0 {
-        return Filter::Raw;
+    match format {
+        0 => Filter::Raw,
+        64 => Filter::Delta(1),
+        65 => Filter::Delta(2),
+        66 => Filter::Delta(4),
+        70 => Filter::Narrow(2),
+        71 => Filter::Narrow(4),
+        72 => Filter::Follow,
+        _ => Filter::Other,
     }
-    if format == 64 {
-        return Filter::Delta(1);
-    }
-    if format == 65 {
-        return Filter::Delta(2);
-    }
-    if format == 66 {
-        return Filter::Delta(4);
-    }
-    if format == 70 {
-        return Filter::Narrow(2);
-    }
-    if format == 71 {
-        return Filter::Narrow(4);
-    }
-    if format == 72 {
-        return Filter::Follow;
-    }
-    Filter::Other
 }
 
 // What the first byte of a block says; an empty one is refused before it matters.
 pub fn filter_at(block: &[u8]) -> Filter
     ensures { result ≡ filter_at block.now }
 {
-    if block.len() == 0 {
-        return filter_of(0);
-    }
-    filter_of(wide(block[0]))
+    filter_of(block.first().map_or(0, |format| usize::from(*format)))
 }
 
 pub fn is_raw(filter: Filter) -> bool
     ensures { result ≡ is_raw filter }
 {
-    match filter {
-        Filter::Raw => true,
-        Filter::Delta(width) => false,
-        Filter::Narrow(width) => false,
-        Filter::Follow => false,
-        Filter::Other => false,
-    }
+    matches!(filter, Filter::Raw)
 }
 
 pub fn is_filter(filter: Filter) -> bool
     ensures { result ≡ is_filter filter }
 {
-    match filter {
-        Filter::Raw => false,
-        Filter::Delta(width) => true,
-        Filter::Narrow(width) => true,
-        Filter::Follow => true,
-        Filter::Other => false,
-    }
+    matches!(
+        filter,
+        Filter::Delta(_) | Filter::Narrow(_) | Filter::Follow
+    )
 }
 
 // Where the data begin.
+#[tactic(auto, unfolding(filter_format::specs::Block::header_length))]
 pub fn header_length(filter: Filter) -> usize
     ensures { (result ≡ header_length filter) × (result ≤ 257) }
 {
     match filter {
-        Filter::Raw => 1,
-        Filter::Delta(width) => if width == 4 { 4 } else { 2 },
-        Filter::Narrow(width) => 1,
+        Filter::Delta(4) => 4,
+        Filter::Delta(_) => 2,
         Filter::Follow => 257,
-        Filter::Other => 1,
+        _ => 1,
     }
 }
 
 pub fn bad_level(level: usize) -> bool
     ensures { result ≡ bad_level level }
 {
-    !((1 <= level) & (level <= 3))
+    !(1..=3).contains(&level)
 }
 
 // Whether the level or the zeros behind it are wrong.
@@ -105,19 +81,17 @@ fn bad_delta_header(block: &[u8], width: usize) -> bool
     ensures { result ≡ bad_header (Delta width) block.now }
 {
     let start = header_length(Filter::Delta(width));
-    bad_level(wide(block[1])) | (first_not(ByteTest::Zero, block, 2, start) < start)
+    bad_level(usize::from(block[1])) || first_not(ByteTest::Zero, block, 2, start) < start
 }
 
+#[tactic(auto, unfolding(filter_format::specs::Block::bad_header))]
 fn bad_header(filter: Filter, block: &[u8]) -> bool
     requires { header_length filter ≤ length block.now }
     ensures { result ≡ bad_header filter block.now }
 {
     match filter {
-        Filter::Raw => false,
         Filter::Delta(width) => bad_delta_header(block, width),
-        Filter::Narrow(width) => false,
-        Filter::Follow => false,
-        Filter::Other => false,
+        _ => false,
     }
 }
 
@@ -143,13 +117,12 @@ fn delta_test(block: &[u8], width: usize, room: usize) -> Result<(), Refusal>
 
 // The units are counted, not their bytes, whose number could exceed 64 bits.
 fn narrow_test(block: &[u8], width: usize, room: usize) -> Result<(), Refusal>
-    requires { (IsWidth width) × (1 ≤ length block.now) }
+    requires { (0 < width) × (1 ≤ length block.now) }
     ensures { answer_of result ≡ data_test (Narrow width) room block.now }
 {
-    let counted = count_units(&block[1..], width);
-    match counted {
-        Counted::Lacking => Err(Refusal(Cause::Units, 0)),
-        Counted::Units(n) => units_room_test(n, width, room),
+    match count_units(&block[1..], width) {
+        None => Err(Refusal(Cause::Units, 0)),
+        Some(n) => units_room_test(n, width, room),
     }
 }
 
@@ -204,17 +177,25 @@ fn undo_delta(out: &mut [u8], block: &[u8], width: usize) -> usize
     requires { Undoable (Delta width) block.now (length out.old) }
     ensures { (result ≡ length (undone (Delta width) block.now)) × (out.new ≡ put_at 0 (undone (Delta width) block.now) out.old) }
 {
-    let start = header_length(Filter::Delta(width));
-    let level = wide(block[1]);
-    put_undelta(out, 0, &block[start..], width, level);
-    block.len() - start
+    let data = &block[header_length(Filter::Delta(width))..];
+    let level = usize::from(block[1]);
+    match width {
+        1 => put_undelta::<u8>(out, 0, data, level),
+        2 => put_undelta::<u16>(out, 0, data, level),
+        _ => put_undelta::<u32>(out, 0, data, level),
+    }
+    data.len()
 }
 
 fn undo_narrow(out: &mut [u8], block: &[u8], width: usize) -> usize
     requires { Undoable (Narrow width) block.now (length out.old) }
     ensures { (result ≡ length (undone (Narrow width) block.now)) × (out.new ≡ put_at 0 (undone (Narrow width) block.now) out.old) }
 {
-    put_widened(out, &block[1..], width)
+    let data = &block[1..];
+    match width {
+        2 => put_widened::<u16>(out, data),
+        _ => put_widened::<u32>(out, data),
+    }
 }
 
 fn undo_follow(out: &mut [u8], block: &[u8]) -> usize

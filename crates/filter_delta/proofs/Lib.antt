@@ -1,6 +1,3 @@
--- `Pass`: one pass along the units. `Transform`: both ways as one. `Loop`: a pass for each level. `LentPart`: the part
--- of a buffer that is lent to them.
+-- `Pass`: one pass along the units. `Levels`: a pass for each level over data that are put.
 pub mod Pass
-pub mod Transform
-pub mod Loop
-pub mod LentPart
+pub mod Levels

@@ -1,89 +1,59 @@
-// No entry points: the callers have the width from the format, whole units and the room from their tests, hence each
-// `requires`.
+// No entry points: the callers have whole units and the room from their tests, hence each `requires`.
 ghost use Rattle.std.specs.Prelude.{◌≡◌, ◌+◌, ◌%◌, ◌≤◌, length};
 ghost use Rattle.octets.specs.Parts.{put_at};
-ghost use Rattle.filter_format.specs.Units.{IsWidth};
 ghost use Rattle.filter_format.specs.Delta.{delta_bytes, undelta_bytes, OneLevelLess};
 
-use buffers::inner::copy;
-use filter_units::inner::{get_unit, put_unit};
+use filter_units::inner::Unit;
 
 // Undoes one level: each unit becomes the sum of it and of those before.
-fn undelta_pass(bytes: &mut [u8], width: usize)
-    requires { (IsWidth width) × (length bytes.old % width ≡ 0) }
-    ensures bytes_after { bytes.new ≡ undelta_bytes width 1 bytes.old }
-    ensures one_level_less { OneLevelLess width bytes.old bytes.new }
+fn undelta_pass<U: Unit>(bytes: &mut [u8])
+    requires { length bytes.old % U.WIDTH ≡ 0 }
+    ensures bytes_after { bytes.new ≡ undelta_bytes U.WIDTH 1 bytes.old }
+    ensures one_level_less { OneLevelLess U.WIDTH bytes.old bytes.new }
 {
-    let mut at: usize = 0;
-    let mut left = bytes.len() / width;
-    let mut p: u32 = 0;
-    while 0 < left {
-        p = std::num::wrapping_add_u32(p, get_unit(bytes, at, width));
-        put_unit(bytes, at, width, p);
-        at += width;
-        left -= 1;
+    let mut sum = U::low(0);
+    for i in 0..bytes.len() / U::WIDTH {
+        let at = i * U::WIDTH;
+        sum = sum.plus(U::get(bytes, at));
+        sum.put(bytes, at);
     }
 }
 
 // Does one level: each unit less the one before.
-fn delta_pass(bytes: &mut [u8], width: usize)
-    requires { (IsWidth width) × (length bytes.old % width ≡ 0) }
-    ensures { bytes.new ≡ delta_bytes width 1 bytes.old }
+fn delta_pass<U: Unit>(bytes: &mut [u8])
+    requires { length bytes.old % U.WIDTH ≡ 0 }
+    ensures { bytes.new ≡ delta_bytes U.WIDTH 1 bytes.old }
 {
-    let mut at: usize = 0;
-    let mut left = bytes.len() / width;
-    let mut p: u32 = 0;
-    while 0 < left {
-        let x = get_unit(bytes, at, width);
-        put_unit(bytes, at, width, std::num::wrapping_sub_u32(x, p));
-        p = x;
-        at += width;
-        left -= 1;
+    let mut previous = U::low(0);
+    for i in 0..bytes.len() / U::WIDTH {
+        let at = i * U::WIDTH;
+        let unit = U::get(bytes, at);
+        unit.minus(previous).put(bytes, at);
+        previous = unit;
     }
 }
 
-// Undoes `level` levels.
-fn undelta_levels(bytes: &mut [u8], width: usize, level: usize)
-    requires { (IsWidth width) × (length bytes.old % width ≡ 0) }
-    ensures { bytes.new ≡ undelta_bytes width level bytes.old }
+// Puts the data at `at`, with `level` levels undone. This and `put_delta` stay two: one function that takes the pass
+// needs a contract for it that is longer than the two bodies.
+pub fn put_undelta<U: Unit>(out: &mut [u8], at: usize, source: &[u8], level: usize)
+    requires { (length source.now % U.WIDTH ≡ 0) × (at + length source.now ≤ length out.old) }
+    ensures { out.new ≡ put_at at (undelta_bytes U.WIDTH level source.now) out.old }
 {
-    let mut to_undo = level;
-    while 0 < to_undo {
-        undelta_pass(bytes, width);
-        to_undo -= 1;
+    let data = &mut out[at..at + source.len()];
+    data.copy_from_slice(source);
+    'undo: for _ in 0..level {
+        undelta_pass::<U>(data);
     }
-}
-
-// Does `level` levels.
-fn delta_levels(bytes: &mut [u8], width: usize, level: usize)
-    requires { (IsWidth width) × (length bytes.old % width ≡ 0) }
-    ensures { bytes.new ≡ delta_bytes width level bytes.old }
-{
-    let mut to_do = level;
-    while 0 < to_do {
-        delta_pass(bytes, width);
-        to_do -= 1;
-    }
-}
-
-// Puts the data at `at`, with `level` levels undone.
-pub fn put_undelta(out: &mut [u8], at: usize, source: &[u8], width: usize, level: usize)
-    requires { (IsWidth width) × (length source.now % width ≡ 0) × (at + length source.now ≤ length out.old) }
-    ensures { out.new ≡ put_at at (undelta_bytes width level source.now) out.old }
-{
-    let n = source.len();
-    let end = at + n;
-    copy(out, at, source, 0, n);
-    undelta_levels(&mut out[at..end], width, level);
 }
 
 // Puts the data at `at`, with `level` levels done.
-pub fn put_delta(out: &mut [u8], at: usize, source: &[u8], width: usize, level: usize)
-    requires { (IsWidth width) × (length source.now % width ≡ 0) × (at + length source.now ≤ length out.old) }
-    ensures { out.new ≡ put_at at (delta_bytes width level source.now) out.old }
+pub fn put_delta<U: Unit>(out: &mut [u8], at: usize, source: &[u8], level: usize)
+    requires { (length source.now % U.WIDTH ≡ 0) × (at + length source.now ≤ length out.old) }
+    ensures { out.new ≡ put_at at (delta_bytes U.WIDTH level source.now) out.old }
 {
-    let n = source.len();
-    let end = at + n;
-    copy(out, at, source, 0, n);
-    delta_levels(&mut out[at..end], width, level);
+    let data = &mut out[at..at + source.len()];
+    data.copy_from_slice(source);
+    'make: for _ in 0..level {
+        delta_pass::<U>(data);
+    }
 }

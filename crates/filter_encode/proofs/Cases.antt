@@ -1,31 +1,34 @@
 -- What was judged, of the case that the filter is. Assumes nothing.
-use mathlib.Core.Path.{◌≡◌, sym, ap, ◌∙◌, subst}
-use mathlib.Core.Bool.{true, false}
-use mathlib.Core.List.{List}
+use mathlib.Core.Path.{◌≡◌, refl, sym, ap, ◌∙◌, subst}
+use mathlib.Core.Bool.{false}
+use mathlib.Core.List.{List, []}
 use Prim.Native.Nat.{ℕ, ◌+◌, ◌%◌, ◌≤◌}
-use native.Mathlib.Omega.{arith}
 use lib.ListN.{length}
 use Rattle.octets.specs.Parts.{put_at}
+use Rattle.octets.proofs.Lists.{put_nil}
 use Rattle.filter_format.specs.declared.Filter.{Filter}
-use Rattle.filter_format.specs.declared.Filter.TheVariants.{Delta, Narrow, Follow}
+use Rattle.filter_format.specs.declared.Filter.TheVariants.{Raw, Delta, Narrow, Follow, Other}
 use Rattle.filter_format.specs.Units.{IsWidth, units_of}
 use Rattle.filter_format.specs.Narrow.{narrow}
-use Rattle.filter_format.specs.Block.{HasUnitWidth, is_filter, header_length, bad_level}
-use Rattle.filter_format.specs.Encode.{bad_given, bad_units, encoded_data}
+use Rattle.filter_format.specs.Block.{HasUnitWidth, header_length, bad_level}
+use Rattle.filter_format.specs.Encode.{bad_given, bad_units, header_rest, encoded_data}
 use Rattle.filter_encode.specs.Judged.{data_length, Judged, Headed}
 use Rattle.filter_format.proofs.Wholes.{whole_units}
 use Rattle.filter_encode.proofs.Lengths.{follow_long}
+
+pub delta-width : {f : Filter} {w : ℕ} → f ≡ Delta w → HasUnitWidth f → IsWidth w
+delta-width e k = subst HasUnitWidth e k
 
 pub narrow-width : {f : Filter} {w : ℕ} → f ≡ Narrow w → HasUnitWidth f → (IsWidth w) × (2 ≤ w)
 narrow-width e k = subst HasUnitWidth e k
 
 pub narrow_whole : {f : Filter} {w : ℕ} (s : List ℕ) → f ≡ Narrow w → (HasUnitWidth f) × (bad_units f s ≡ false)
-    → (IsWidth w) × (length s % w ≡ 0) × (2 ≤ w)
+    → (length s % w ≡ 0) × (2 ≤ w)
 unfolding bad_units
 narrow_whole {w = w} s e h =
     let k : (IsWidth w) × (2 ≤ w) = narrow-width e h.0 in
     let u : bad_units (Narrow w) s ≡ false = subst (λ (x : Filter). bad_units x s ≡ false) e h.1 in
-    (k.0, whole_units w s u, k.1)
+    (whole_units w s u, k.1)
 
 -- the header
 module _ {f : Filter} (level : ℕ) (follow : List ℕ) (n : ℕ) (h : Headed f level follow n) where
@@ -40,6 +43,18 @@ module _ {f : Filter} (level : ℕ) (follow : List ℕ) (n : ℕ) (h : Headed f 
   unfolding header_length
   table_fits e = ((headed e).1, (headed e).0)
 
+  -- a filter with nothing behind its format byte
+  pub no_rest : ((w : ℕ) → f ≡ Delta w → ⊥) → (f ≡ Follow → ⊥) → (out : List ℕ) → out ≡ put_at 1 (header_rest f level follow) out
+  unfolding header_rest
+  no_rest d k out = rw (nothing f d k) (sym (put_nil 1 out))
+    where
+      nothing : (g : Filter) → ((w : ℕ) → g ≡ Delta w → ⊥) → (g ≡ Follow → ⊥) → header_rest g level follow ≡ []
+      nothing Raw d k = refl
+      nothing (Delta w) d k = absurd (d w refl)
+      nothing (Narrow w) d k = refl
+      nothing Follow d k = absurd (k refl)
+      nothing Other d k = refl
+
 -- the data, at their start
 module _ {f : Filter} (level : ℕ) (follow s : List ℕ) {start : ℕ} (b : start ≡ header_length f) where
   pub data_put : {g : Filter} → f ≡ g → (out : List ℕ) {out' : List ℕ} → out' ≡ put_at start (encoded_data g level follow s) out
@@ -53,21 +68,14 @@ module _ {f : Filter} (level : ℕ) (follow s : List ℕ) {start : ℕ} (b : sta
     begins : {g : Filter} → f ≡ g → start ≡ header_length g
     begins e = b ∙ ap header_length e
 
-    pub delta-fits : {w : ℕ} → f ≡ Delta w → (IsWidth w) × (length s % w ≡ 0) × (start + length s ≤ n)
+    pub delta-fits : {w : ℕ} → f ≡ Delta w → (length s % w ≡ 0) × (start + length s ≤ n)
     unfolding bad_units data_length
-    delta-fits {w = w} e = let k = judged_as e in (k.0, whole_units w s k.3, rw (begins e) k.4)
+    delta-fits {w = w} e = let k = judged_as e in (whole_units w s k.3, rw (begins e) k.4)
 
-    pub narrow-fits : {w : ℕ} → f ≡ Narrow w → (IsWidth w) × (length s % w ≡ 0) × (start + length (narrow w (units_of w s)) ≤ n)
+    pub narrow-fits : {w : ℕ} → f ≡ Narrow w → (length s % w ≡ 0) × (start + length (narrow w (units_of w s)) ≤ n)
     unfolding bad_units data_length
-    narrow-fits {w = w} e = let k = judged_as e in (k.0.0, whole_units w s k.3, rw (begins e) k.4)
+    narrow-fits {w = w} e = let k = judged_as e in (whole_units w s k.3, rw (begins e) k.4)
 
     pub follow_fits : f ≡ Follow → (length follow ≡ 256) × (start + length s ≤ n)
     unfolding data_length
     follow_fits e = let k = judged_as e in (follow_long level follow k.2, rw (begins e) k.4)
-
--- no block is made but by a filter
-pub no_filter : {A : Type 0} (f g : Filter) → f ≡ g → is_filter g ≡ false → is_filter f ≡ true → A
-no_filter f g e i h =
-    let z : false ≡ true = sym i ∙ ap is_filter (sym e) ∙ h in
-    let y : ◌≡◌ {A = ℕ} 0 1 = cc in
-    absurd (let x : ⊥ = omega arith in x)

@@ -1,5 +1,5 @@
 -- Each byte of format 72 by the one before it, both ways, and the loops' invariant. Assumes nothing.
-use Rattle.std.proofs.Common.{◌≡◌, ℕ, zero, suc, ◌+◌, ◌-◌, ◌%◌, ◌<◌, ◌≤◌, List, [], ◌∷◌, length, get_or, set, sym, refl, ap, ◌∙◌, add-zero, arith, length-set, get_or-set_same, drop-set-lt}
+use Rattle.std.proofs.Common.{add-one, ◌≡◌, ℕ, zero, suc, ◌+◌, ◌-◌, ◌<◌, ◌≤◌, List, [], ◌∷◌, length, get_or, set, sym, refl, ap, ◌∙◌, add-zero, arith, length-set, get_or-set_same, drop-set-lt}
 use lib.Seq.{set-get_or, take-set-le}
 use Rattle.octets.specs.Parts.{put_at}
 use Rattle.octets.proofs.Moves.{Up, up_start, up_more, up_done}
@@ -50,12 +50,6 @@ made-unfollowed f (x ∷ ys) = record {
   next = λ j h. scan-at (predicted f) (predicted f) x ys j (omega arith);
 }
 
--- the code's difference of two bytes is the definition's
-predicted_by : (f : List ℕ) (p q x v : ℕ) → q ≡ p → v < 256 → x < 256 → (v + x) % 256 ≡ get_or f q 0 → v ≡ predicted f p x
-predicted_by f p q x v e hv hx h =
-    let k : v ≡ (get_or f q 0 + (256 - x)) % 256 = omega arith in
-    k ∙ ap (λ (n : ℕ). (get_or f n 0 + (256 - x)) % 256) e
-
 -- the first j bytes of what is made are put, and p is the byte before the next one
 pub record Turn (at : ℕ) (f seen xs made s₀ s : List ℕ) (p j : ℕ) : Type 0 where
   pub by : Made f seen xs made
@@ -83,12 +77,12 @@ module _ (at : ℕ) (s₀ : List ℕ) {f seen xs made : List ℕ} (m : Made f se
 
 module _ {at : ℕ} {f seen xs made s₁ s : List ℕ} {p j : ℕ} (t : Turn at f seen xs made s₁ s p j) where
   -- the byte v is put: what is remembered then is the byte of `seen` there
-  pub more : j < length xs → (q v n : ℕ) → q ≡ p → v < 256 → get_or xs j 0 < 256 → (v + get_or xs j 0) % 256 ≡ get_or f q 0
-      → (v ≡ get_or made j 0 → n ≡ get_or seen j 0) → (i : ℕ) → i ≡ at + j → Turn at f seen xs made s₁ (set s i v) n (j + 1)
-  more h q v n e hv hx d k i here =
+  pub more : j < length xs → {v n x i : ℕ} → x ≡ get_or xs j 0 → v ≡ predicted f p x → (v ≡ get_or made j 0 → n ≡ get_or seen j 0) → i ≡ at + j
+      → Turn at f seen xs made s₁ (set s i v) n (j + 1)
+  more h {v} ex ev k here =
       let is-next : suc (j - 1) ≡ j = omega (arith, t.begun) in
       let there = rw is-next at (t.by.next (j - 1) (omega (arith, t.begun))) in
-      let put : v ≡ get_or made j 0 = predicted_by f (get_or seen (j - 1) 0) q (get_or xs j 0) v (e ∙ t.last) hv hx d ∙ sym there in
+      let put : v ≡ get_or made j 0 = rw (ex, t.last) at ev ∙ sym there in
       let one_less : j + 1 - 1 ≡ j = omega arith in
       record { by = t.by; up = rw here (up_more t.up h v put); begun = omega arith; last = rw one_less (k put) }
 
@@ -100,3 +94,11 @@ module _ {at : ℕ} {f seen xs made s₁ s : List ℕ} {p j : ℕ} (t : Turn at 
         let x : ℕ = get_or xs 0 0 in
         let put = rw e at (up_done t.up h) in
         rw (take-set-le at s₀ at x (omega arith), drop-set-lt (at + length made) s₀ at x (omega (arith, t.by.all))) at put
+
+-- the first byte, and the byte at j of those after it
+module _ {x : ℕ} {xs ys : List ℕ} (e : xs ≡ x ∷ ys) where
+  pub first_byte : x ≡ get_or xs 0 0
+  first_byte = rw e
+
+  pub byte_after : (j : ℕ) → get_or ys j 0 ≡ get_or xs (j + 1) 0
+  byte_after j = rw (add-one j, e)

@@ -6,6 +6,7 @@ pub mod Following
 pub mod Blocks
 pub mod Layers
 pub mod Results
+pub mod Calls
 pub mod Sampled
 pub mod Refusals
 pub mod Eight

@@ -1,21 +1,23 @@
--- Units narrowed: one of them, and the invariants of the loops over all of them. Assumes nothing.
+-- Units narrowed: one of them, and the invariants of the loops over all of them, which speak of the rest that is still
+-- to come. Assumes nothing.
 use mathlib.Core.Path.{◌≡◌, refl, sym, ap, ◌∙◌}
 use mathlib.Core.Bool.{Bool, true, false, cond, ◌||◌}
 use mathlib.Core.List.{List, [], ◌∷◌, ◌++◌}
-use Prim.Native.Nat.{ℕ, suc, ◌+◌, ◌-◌, ◌*◌, ◌/◌, ◌%◌, ◌<◌, ◌≤◌}
-use native.Mathlib.Nat.{mul-suc}
-use native.Mathlib.Numerals.{add-one}
+use Prim.Native.Nat.{ℕ, zero, suc, ◌+◌, ◌*◌, ◌/◌, ◌%◌, ◌<◌, ◌≤◌}
 use native.Mathlib.Omega.{arith}
 use borrow.Author.Tests.{leb-true}
 use lib.Dec.{leb}
-use lib.ListN.{length, set, length-append}
+use lib.ListN.{length, set, take, drop, length-append}
+use lib.Seq.{drop-drop}
+use Rattle.std.proofs.Common.{add-one, take_at, drop_at, take_all}
+use Rattle.std.proofs.Math.Nat.{add-div_left, add-mod_left, mod-eq_of_lt, zero-div}
+use Rattle.std.proofs.lemmas.List.{nil_from_length}
 use Rattle.octets.specs.Parts.{put_at}
 use Rattle.octets.specs.Numbers.{number, bytes_of, units_at}
 use Rattle.octets.proofs.Lists.{put_sets, put_put}
 use Rattle.octets.proofs.Digits.{length-bytes_of}
 use Rattle.filter_format.specs.Units.{units_of}
 use Rattle.filter_format.specs.Narrow.{least_narrowed, narrow_unit, narrow}
-use Rattle.filter_format.proofs.Wholes.{units_in}
 use Rattle.filter_narrow.specs.Counted.{fits_one}
 use Rattle.filter_narrow.proofs.Filling.{Filling, filling_start, filling_room, filling_more, filling_done}
 
@@ -43,8 +45,8 @@ module _ (w u : ℕ) {t : Bool} (e : t ≡ fits_one w u) where
   pub length_one : t ≡ true → length (narrow_unit w u) ≡ 1
   length_one f = ap length (narrow_one f)
 
-  pub length_whole : t ≡ false → length (narrow_unit w u) ≡ w + 1
-  length_whole f = ap length (narrow_whole f) ∙ ap suc (length-bytes_of w u) ∙ sym (add-one w)
+  pub length_whole : t ≡ false → length (narrow_unit w u) ≡ 1 + w
+  length_whole f = ap length (narrow_whole f) ∙ ap suc (length-bytes_of w u) ∙ omega arith
 
   module _ (at : ℕ) (out : List ℕ) (room : at + length (narrow_unit w u) ≤ length out) where
     pub put_one : t ≡ true → set out at (u % 256) ≡ put_at at (narrow_unit w u) out
@@ -57,72 +59,80 @@ module _ (w u : ℕ) {t : Bool} (e : t ≡ fits_one w u) where
         let first = ap (λ (l : List ℕ). put_at (at + 1) (bytes_of w u) l) (put_sets (128 ∷ []) out at h) in
         d ∙ rw (narrow_whole f) (first ∙ put_put at (128 ∷ []) (bytes_of w u) out h)
 
--- `left` units are to come, from place `from` on, of data in whole units
-pub record Remaining (w from left : ℕ) (s : List ℕ) : Type 0 where
-  pub exact : from + w * left ≡ length s
+-- the data r are the bytes x of a unit and then r'
+pub record Turn (w : ℕ) (x r r' : List ℕ) : Type 0 where
+  pub is : r ≡ x ++ r'
+  pub long : length x ≡ w
+  pub positive : 0 < w
 
-module _ {w from left : ℕ} {s : List ℕ} (m : Remaining w from left s) (some : 0 < left) where
-  split : w * left ≡ w * (left - 1) + w
-  split = let e : left ≡ suc (left - 1) = omega arith in ap (λ (k : ℕ). w * k) e ∙ mul-suc w (left - 1) ∙ omega arith
+units_after : (w k : ℕ) (x t : List ℕ) → length x ≡ k → (n p q : ℕ) → q ≡ k + p → units_at w n q (x ++ t) ≡ units_at w n p t
+unfolding units_at number
+units_after w k x t h zero p q e = refl
+units_after w k x t h (suc n) p q e =
+    let there : drop q (x ++ t) ≡ drop p t = rw e (sym (drop-drop p k (x ++ t)) ∙ ap (drop p) (drop_at x t k h)) in
+    rw (there, units_after w k x t h n (p + w) (q + w) (omega arith))
 
-  remaining_more : Remaining w (from + w) (left - 1) s
-  remaining_more = record { exact = omega (arith, split, m.exact) }
+module _ {w : ℕ} {x r r' : List ℕ} (t : Turn w x r r') where
+  longer : length r ≡ w + length r'
+  longer = ap length t.is ∙ length-append x r' ∙ ap (λ (k : ℕ). k + length r') t.long
 
-  remaining_first : (u : ℕ) → u ≡ number w from s
-      → narrow w (units_at w left from s) ≡ narrow_unit w u ++ narrow w (units_at w (left - 1) (from + w) s)
-  unfolding units_at narrow
-  remaining_first u e = let n : left ≡ suc (left - 1) = omega arith in ap (λ (k : ℕ). narrow w (units_at w k from s)) n ∙ rw e
+  -- its unit, and those after it
+  units_next : units_of w r ≡ number w 0 x ∷ units_of w r'
+  unfolding units_at number
+  units_next =
+      let count : length r / w ≡ suc (length r' / w) = ap (λ (k : ℕ). k / w) longer ∙ add-div_left (length r') t.positive ∙ add-one (length r' / w) in
+      let first : take w (x ++ r') ≡ take w x = take_at x r' w t.long ∙ sym (take_all w x (omega (arith, t.long))) in
+      rw (count, t.is, first, units_after w w x r' t.long (length r' / w) 0 (0 + w) (omega arith))
 
-remaining_start : (w : ℕ) (s : List ℕ) → length s % w ≡ 0 → Remaining w 0 (length s / w) s
-remaining_start w s e = record { exact = omega (arith, units_in w s e) }
+  pub whole_next : length r % w ≡ 0 → length r' % w ≡ 0
+  whole_next h = sym (ap (λ (k : ℕ). k % w) longer ∙ add-mod_left w (length r')) ∙ h
 
-remaining_none : (w left from : ℕ) (s : List ℕ) → left ≤ 0 → narrow w (units_at w left from s) ≡ []
+  pub narrow_next : (u : ℕ) → u ≡ number w 0 x → narrow w (units_of w r) ≡ narrow_unit w u ++ narrow w (units_of w r')
+  unfolding narrow
+  narrow_next u e = rw (units_next, e)
+
+-- no whole unit is left
+narrow_none : (w : ℕ) (r : List ℕ) → length r % w ≡ 0 → length r < w → narrow w (units_of w r) ≡ []
 unfolding units_at narrow
-remaining_none w left from s h = let e : left ≡ 0 = omega arith in rw e
+narrow_none w r whole less = let none = nil_from_length r (sym (mod-eq_of_lt less) ∙ whole) in rw (none, zero-div w)
 
--- the units before place `from` take `size` bytes; they hold at least two bytes each, so that the sum stays small
-pub record Measuring (w from left size : ℕ) (s : List ℕ) : Type 0 where
-  pub units : Remaining w from left s
-  pub sum : size + length (narrow w (units_at w left from s)) ≡ length (narrow w (units_of w s))
-  pub few : 2 * size ≤ 3 * from
+-- the units before the rest r take `size` bytes; they hold at least two bytes each, so that the sum stays small
+pub record Measuring (w size : ℕ) (r s : List ℕ) : Type 0 where
+  pub whole : length r % w ≡ 0
+  pub sum : size + length (narrow w (units_of w r)) ≡ length (narrow w (units_of w s))
+  pub few : 2 * size + 3 * length r ≤ 3 * length s
   pub wide : 2 ≤ w
 
-module _ {w from left size : ℕ} {s : List ℕ} (m : Measuring w from left size s) where
-  pub measuring_few : 2 * size ≤ 3 * length s
-  measuring_few = omega (arith, m.few, m.units.exact)
+module _ {w size : ℕ} {r s : List ℕ} (m : Measuring w size r s) where
+  pub measuring_more : {x r' : List ℕ} → Turn w x r r' → (u n : ℕ) → u ≡ number w 0 x → n ≡ length (narrow_unit w u) → n ≤ w + 1 → Measuring w (size + n) r' s
+  measuring_more {x} {r'} t u n e l h =
+      let k = ap length (narrow_next t u e) ∙ length-append (narrow_unit w u) (narrow w (units_of w r')) in
+      let long = ap length t.is ∙ length-append x r' in
+      record { whole = whole_next t m.whole; sum = omega (arith, m.sum, k, l); few = omega (arith, m.few, m.wide, h, long, t.long); wide = m.wide }
 
-  pub measuring_more : 0 < left → (u n : ℕ) → u ≡ number w from s → n ≡ length (narrow_unit w u) → n ≤ w + 1
-      → Measuring w (from + w) (left - 1) (size + n) s
-  measuring_more some u n e l h =
-      let k = ap length (remaining_first m.units some u e) ∙ length-append (narrow_unit w u) (narrow w (units_at w (left - 1) (from + w) s)) in
-      record { units = remaining_more m.units some; sum = omega (arith, m.sum, k, l); few = omega (arith, m.few, m.wide, h); wide = m.wide }
+  pub measuring_done : length r < w → (size ≡ length (narrow w (units_of w s))) × (2 * size ≤ 3 * length s)
+  measuring_done h = let k = ap length (narrow_none w r m.whole h) in (omega (arith, m.sum, k), omega (arith, m.few))
 
-  pub measuring_done : left ≤ 0 → (size ≡ length (narrow w (units_of w s))) × (2 * size ≤ 3 * length s)
-  measuring_done h = let k = ap length (remaining_none w left from s h) in (omega (arith, m.sum, k), measuring_few)
-
--- the units before place `from` are put, from `at` up to `to`
-pub record Narrowing (w at from left to : ℕ) (s out₀ out : List ℕ) : Type 0 where
-  pub units : Remaining w from left s
-  pub filling : Filling at to (narrow w (units_at w left from s)) (narrow w (units_of w s)) out₀ out
+-- the units before the rest r are put, from `at` up to `to`
+pub record Narrowing (w at to : ℕ) (r s out₀ out : List ℕ) : Type 0 where
+  pub whole : length r % w ≡ 0
+  pub filling : Filling at to (narrow w (units_of w r)) (narrow w (units_of w s)) out₀ out
 
 pub narrowing_start : (w at : ℕ) (s out : List ℕ) → length s % w ≡ 0 → at + length (narrow w (units_of w s)) ≤ length out
-    → Narrowing w at 0 (length s / w) at s out out
-narrowing_start w at s out e h = record { units = remaining_start w s e; filling = filling_start at (narrow w (units_of w s)) out h }
+    → Narrowing w at at s s out out
+narrowing_start w at s out e h = record { whole = e; filling = filling_start at (narrow w (units_of w s)) out h }
 
-module _ {w at from left to : ℕ} {s out₀ out : List ℕ} (m : Narrowing w at from left to s out₀ out) where
-  module _ (some : 0 < left) (u : ℕ) (e : u ≡ number w from s) where
-    abbrev to_come : List ℕ
-    to_come = narrow w (units_at w (left - 1) (from + w) s)
-
+module _ {w at to : ℕ} {r s out₀ out : List ℕ} (m : Narrowing w at to r s out₀ out) where
+  module _ {x r' : List ℕ} (t : Turn w x r r') (u : ℕ) (e : u ≡ number w 0 x) where
     pub narrowing_room : to + length (narrow_unit w u) ≤ length out
-    narrowing_room = filling_room m.filling (narrow_unit w u) to_come (remaining_first m.units some u e)
+    narrowing_room = filling_room m.filling (narrow_unit w u) (narrow w (units_of w r')) (narrow_next t u e)
 
-    pub narrowing_more : (next : ℕ) (out' : List ℕ) → next ≡ to + length (narrow_unit w u) → out' ≡ put_at to (narrow_unit w u) out
-        → Narrowing w at (from + w) (left - 1) next s out₀ out'
-    narrowing_more next out' n d = record {
-      units = remaining_more m.units some;
-      filling = filling_more m.filling (narrow_unit w u) to_come (remaining_first m.units some u e) next out' n d;
+    pub narrowing_more : {next : ℕ} {out' : List ℕ} → next ≡ to + length (narrow_unit w u) → out' ≡ put_at to (narrow_unit w u) out
+        → Narrowing w at next r' s out₀ out'
+    narrowing_more {next} {out'} n d = record {
+      whole = whole_next t m.whole;
+      filling = filling_more m.filling (narrow_unit w u) (narrow w (units_of w r')) (narrow_next t u e) next out' n d;
     }
 
-  pub narrowing_done : left ≤ 0 → out ≡ put_at at (narrow w (units_of w s)) out₀
-  narrowing_done h = filling_done m.filling (remaining_none w left from s h)
+  pub narrowing_done : length r < w → out ≡ put_at at (narrow w (units_of w s)) out₀
+  narrowing_done h = filling_done m.filling (narrow_none w r m.whole h)

@@ -4,10 +4,3 @@
 #![tactic(auto)]
 
 pub mod inner;
-
-// What a count of units finds.
-#[derive(Clone, Copy)]
-pub enum Counted {
-    Units(usize),
-    Lacking,
-}

@@ -1,23 +1,31 @@
--- A unit of a known width. Assumes nothing.
-use mathlib.Core.Path.{◌≡◌, sym, ◌∙◌}
-use mathlib.Core.List.{List, [], ◌∷◌}
-use Prim.Native.Nat.{ℕ, ◌%◌, ◌<◌}
+-- A unit's bytes put at a place, by the width. Assumes nothing.
+use Rattle.std.proofs.Common.{◌≡◌, ℕ, ◌+◌, ◌-◌, ◌/◌, ◌%◌, ◌<◌, List, [], ◌∷◌, length, set, drop, sym, ap, ◌∙◌, append_assoc, arith}
 use native.Mathlib.Nat.{div-one}
-use native.Mathlib.Omega.{arith}
-use lib.ListN.{length, set, get_or}
+use lib.Seq.{drop-drop}
+use borrow.Rule.Slice.PartMut.{put_mid}
 use Rattle.octets.specs.Parts.{put_at}
-use Rattle.octets.specs.Numbers.{number, bytes_of}
-use Rattle.octets.proofs.Digits.{number_one}
+use Rattle.octets.specs.Numbers.{bytes_of}
 use Rattle.octets.proofs.Lists.{put_sets}
-use Rattle.filter_format.specs.Units.{range}
 
-module _ (s : List ℕ) (at w : ℕ) where
-  pub got : (k r : ℕ) → w ≡ k → r ≡ number k at s → r < range k → (r ≡ number w at s) × (r < range w)
-  got k r e a b = rw e (a, b)
+pub put_one : (s : List ℕ) (at v : ℕ) → v < 256 → at < length s → set s at v ≡ put_at at (bytes_of 1 v) s
+unfolding bytes_of
+put_one s at v b h =
+    let e : v ≡ v % 256 = omega arith in
+    rw (div-one v) (ap (λ (x : ℕ). set s at x) e ∙ put_sets (v % 256 ∷ []) s at (omega arith))
 
-  pub got_one : (r : ℕ) → w ≡ 1 → at < length s → r ≡ get_or s at 0 → r < 256 → (r ≡ number w at s) × (r < range w)
-  got_one r e h a b = got 1 r e (a ∙ sym (number_one at s h)) b
+-- a part of the bytes that was lent comes back as r
+given_back : (k at : ℕ) (s r : List ℕ) → length r ≡ k → put_mid at (at + k - at) s r ≡ put_at at r s
+unfolding put_at
+given_back k at s r e =
+    let n : at + k - at ≡ k = omega arith in
+    let q : at + length r ≡ at + k = omega arith in
+    rw (n, q, drop-drop k at s) (sym (append_assoc _ r (drop (at + k) s)))
 
-  pub put_one : (v : ℕ) → w ≡ 1 → at < length s → set s at (v % 256) ≡ put_at at (bytes_of w v) s
-  unfolding bytes_of
-  put_one v e h = rw (e, div-one v) (put_sets (v % 256 ∷ []) s at (omega arith))
+pub put_two : (at v : ℕ) (s r : List ℕ) → r ≡ (v / 256 % 256 ∷ v % 256 ∷ []) → put_mid at (at + 2 - at) s r ≡ put_at at (bytes_of 2 v) s
+unfolding bytes_of
+put_two at v s r e = rw (div-one v, ← e) (given_back 2 at s r (ap length e))
+
+pub put_four : (at v : ℕ) (s r : List ℕ)
+    → r ≡ (v / 16777216 % 256 ∷ v / 65536 % 256 ∷ v / 256 % 256 ∷ v % 256 ∷ []) → put_mid at (at + 4 - at) s r ≡ put_at at (bytes_of 4 v) s
+unfolding bytes_of
+put_four at v s r e = rw (div-one v, ← e) (given_back 4 at s r (ap length e))

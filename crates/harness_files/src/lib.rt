@@ -3,20 +3,20 @@
 #![tactic(auto)]
 
 ghost use Rattle.std.specs.Prelude.{◌≡◌, get_or};
+ghost use Rattle.answers.specs.Causes.{number};
 ghost use Rattle.sff_format.specs.Step.{step, found, stop};
 ghost use Rattle.sff_reader.specs.Forms.{state_of};
 ghost use Rattle.harness_files.specs.Outs.{flag, span_from, view_from, view_clips, ClipsFit, stepped_of, put_front, clips_from};
 ghost use Rattle.harness_files.specs.Outs.{FlowCharactersCopied, KeyCopied, ViewTested, StateMade, SteppedOn};
 ghost use Rattle.harness_files.specs.Outs.{InsertCopied, SignalSummarised, FileMade, ReadAppended};
 
-use answers::{number_of, place_of};
+use answers::{Refusal, number_of, place_of};
 use buffers::inner::copy;
-use octets::wide;
 use sff_find::position_test;
 use sff_format::{Clips, ReadView, Span};
 use sff_header::{flow_characters, header_test, key};
 use sff_insert::{insert, insert_ends};
-use sff_reader::{Reader, Step};
+use sff_reader::{Found, Reader};
 use sff_sections::NewRead;
 use sff_signal::{signal, signal_test};
 use sff_view::view_test;
@@ -39,7 +39,7 @@ struct Stepped {
 fn flag_of(x: bool) -> u64
     ensures { result ≡ flag x }
 {
-    if x { 1 } else { 0 }
+    u64::from(x)
 }
 
 fn clips_of(view: ReadView) -> u64
@@ -51,6 +51,7 @@ fn clips_of(view: ReadView) -> u64
     (quality * 4294967296 + adapter) as u64
 }
 
+#[tactic(auto, unfolding(crate::specs::Outs::stepped_of))]
 fn read_found(view: ReadView, next: Reader) -> Stepped
     requires { ClipsFit view }
     ensures { result ≡ stepped_of (found view (state_of next)) }
@@ -68,11 +69,13 @@ fn read_found(view: ReadView, next: Reader) -> Stepped
     }
 }
 
-fn read_refused(number: u8, place: usize, unmoved: Reader) -> Stepped
-    ensures { result ≡ stepped_of (stop number place (state_of unmoved)) }
+#[tactic(auto, unfolding(crate::specs::Outs::stepped_of))]
+fn read_refused(refusal: Refusal, unmoved: Reader) -> Stepped
+    ensures { result ≡ stepped_of (stop (number refusal.0) refusal.1 (state_of unmoved)) }
 {
+    let Refusal(cause, place) = refusal;
     Stepped {
-        number: wide(number) as u64,
+        number: cause.number(),
         place: place as u64,
         at: unmoved.place as u64,
         passed: unmoved.passed_reads as u64,
@@ -87,10 +90,9 @@ fn read_refused(number: u8, place: usize, unmoved: Reader) -> Stepped
 fn step_on(file: &[u8], reader: Reader) -> Stepped
     ensures { result ≡ stepped_of (step file.now (state_of reader)) }
 {
-    let step = reader.step(file);
-    match step {
-        Step::Found(view, next) => read_found(view, next),
-        Step::Stopped(number, place, unmoved) => read_refused(number, place, unmoved),
+    match reader.step(file) {
+        Ok(Found { view, next }) => read_found(view, next),
+        Err(refusal) => read_refused(refusal, reader),
     }
 }
 
@@ -204,6 +206,7 @@ fn span_from(numbers: &[u64], at: usize, size: usize) -> Span
     }
 }
 
+#[tactic(auto, unfolding(crate::specs::Outs::view_from))]
 fn view_from(numbers: &[u64]) -> ReadView
     ensures { result ≡ view_from numbers.now }
 {
@@ -289,10 +292,9 @@ pub fn new_out(
         result place.new length_after.new buffer.new }
 {
     let outcome = new_file(buffer, flows, key);
-    let answer = outcome.answer;
-    *place = place_of(answer);
-    *length_after = outcome.length as u64;
-    number_of(answer)
+    *place = place_of(outcome);
+    *length_after = outcome.unwrap_or(0) as u64;
+    number_of(outcome)
 }
 
 pub fn append_out(
@@ -320,8 +322,7 @@ pub fn append_out(
         qualities,
     };
     let outcome = append(buffer, file_length as usize, &read);
-    let answer = outcome.answer;
-    *place = place_of(answer);
-    *length_after = outcome.length as u64;
-    number_of(answer)
+    *place = place_of(outcome);
+    *length_after = outcome.unwrap_or(file_length as usize) as u64;
+    number_of(outcome)
 }

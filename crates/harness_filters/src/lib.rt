@@ -4,13 +4,13 @@
 
 ghost use Rattle.std.specs.Prelude.{◌≡◌, length};
 ghost use Rattle.filter_format.specs.Undo.{filtered};
+ghost use Rattle.filter_format.specs.Made.{filtered_of};
 ghost use Rattle.filter_format.specs.Encode.{out_after};
 ghost use Rattle.harness_filters.specs.Samples.{samples};
 ghost use Rattle.harness_filters.specs.Outs.{Undone, LayerUndone, Encoded, SamplesFiltered};
 
-use answers::number_of;
+use answers::{Refusal, number_of};
 use filter_encode::encode;
-use filter_format::Filtered;
 use filter_undo::{undo, undo_layer};
 use scf_samples::{encode_samples, undo_samples};
 
@@ -19,9 +19,8 @@ pub fn undo_out(block: &[u8], first: &mut [u8], second: &mut [u8], made: &mut u6
         result made.new first.new second.new }
 {
     let filtered = undo(block, first, second);
-    let answer = filtered.answer;
-    *made = filtered.made as u64;
-    number_of(answer)
+    *made = filtered.unwrap_or(0) as u64;
+    number_of(filtered)
 }
 
 pub fn undo_layer_out(block: &[u8], first: &mut [u8], second: &mut [u8], made: &mut u64) -> u64
@@ -29,9 +28,8 @@ pub fn undo_layer_out(block: &[u8], first: &mut [u8], second: &mut [u8], made: &
         result made.new first.new second.new }
 {
     let filtered = undo_layer(block, first, second);
-    let answer = filtered.answer;
-    *made = filtered.made as u64;
-    number_of(answer)
+    *made = filtered.unwrap_or(0) as u64;
+    number_of(filtered)
 }
 
 pub fn encode_out(
@@ -46,9 +44,8 @@ pub fn encode_out(
         result made.new out.new }
 {
     let filtered = encode(format as usize, level as usize, follow, source, out);
-    let answer = filtered.answer;
-    *made = filtered.made as u64;
-    number_of(answer)
+    *made = filtered.unwrap_or(0) as u64;
+    number_of(filtered)
 }
 
 // Encodes where `undone` is 0, and else undoes.
@@ -62,14 +59,18 @@ pub fn samples_out(
     ensures { SamplesFiltered precision undone source.now out.old result made.new out.new }
 {
     let filtered = samples_either(precision as usize, undone, source, out);
-    let answer = filtered.answer;
-    *made = filtered.made as u64;
-    number_of(answer)
+    *made = filtered.unwrap_or(0) as u64;
+    number_of(filtered)
 }
 
 #[tactic(auto, unfolding(crate::specs::Samples::samples))]
-fn samples_either(precision: usize, undone: u64, source: &[u8], out: &mut [u8]) -> Filtered
-    ensures value { result ≡ filtered (samples undone (length out.old) precision source.now) }
+fn samples_either(
+    precision: usize,
+    undone: u64,
+    source: &[u8],
+    out: &mut [u8],
+) -> Result<usize, Refusal>
+    ensures value { filtered_of result ≡ filtered (samples undone (length out.old) precision source.now) }
     ensures out_after { out.new ≡ out_after (samples undone (length out.old) precision source.now) out.old }
 {
     if undone == 0 {

@@ -1,12 +1,12 @@
 -- A listing and its pieces, as the code puts them. Assumes nothing.
-use Prim.Native.Nat.{ℕ, ◌+◌, ◌≤◌}
-use mathlib.Core.Path.{◌≡◌, sym, ◌∙◌}
+use Prim.Native.Nat.{ℕ, ◌+◌, ◌-◌, ◌≤◌}
+use mathlib.Core.Path.{◌≡◌, refl, sym, ◌∙◌}
 use mathlib.Core.Bool.{Bool, true, false, not}
 use mathlib.Core.List.{List, ◌++◌}
 use native.Mathlib.Omega.{arith}
-use lib.Dec.{ltb}
-use lib.ListN.{length}
-use borrow.Author.Tests.{ltb-false, not-true}
+use lib.Dec.{ltb, eqb}
+use lib.ListN.{length, length-append}
+use borrow.Author.Tests.{ltb-true, ltb-false, eq-eqb, ne_eqb, not-true}
 use Rattle.octets.specs.Parts.{whole_part}
 use Rattle.octets.specs.Numbers.{Bytes}
 use Rattle.octets.proofs.Lists.{whole_in}
@@ -43,6 +43,15 @@ module _ (b : List ℕ) (e : file_test b ≡ Accepted) where
 pub listing_refused : (b : List ℕ) (n p : ℕ) → file_test b ≡ Refused n p → listing b ≡ refusal_line n p
 unfolding listing
 listing_refused b n p e = answered-refusal _ e
+
+-- of so much room and one byte the header's line leaves `left`, and the reads' lines leave `last` of that: 0 exactly
+-- where both together have more than the room
+pub measured : (room : ℕ) (xs ys : List ℕ) {left last : ℕ} → left ≡ room + 1 - length xs → last ≡ left - length ys → eqb last 0 ≡ ltb room (length (xs ++ ys))
+measured room xs ys {left} {last} e f = go (ltb room (length (xs ++ ys))) refl
+  where
+    go : (t : Bool) → ltb room (length (xs ++ ys)) ≡ t → eqb last 0 ≡ t
+    go true h = let l = ltb-true room _ h in let n = length-append xs ys in eq-eqb last 0 (omega (arith, n))
+    go false h = let l = ltb-false room _ h in let n = length-append xs ys in ne_eqb last 0 (λ z. omega (arith, n, z))
 
 -- enough room for any file of that length
 pub enough_room : (b : List ℕ) (room : ℕ) → Bytes b → file_test b ≡ Accepted → {r : Bool} → r ≡ not (ltb room (enough (length b))) → r ≡ true

@@ -67,7 +67,8 @@ impl Text for FileLines<'_> {
     ghost text = { λ lines. file_lines (parse lines.file) };
 
     fn left_of(&self, room: usize) -> Option<usize> {
-        let mut left = self.header_line().left_of(room)?;
+        let behind_header = self.header_line().left_of(room)?;
+        let mut left = behind_header;
         let mut boundary = first_boundary(&self.file);
         for position in 0..self.file.reads() {
             let here = next_read(&self.file, position, boundary);

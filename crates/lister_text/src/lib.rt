@@ -19,10 +19,7 @@ use text::inner::write_text;
 pub fn has_room(size: usize, room: usize) -> bool
     ensures { result ≡ not (ltb room (enough size)) }
 {
-    if room < 64 {
-        return false;
-    }
-    size <= (room - 64) / 7
+    room >= 64 && size <= (room - 64) / 7
 }
 
 // Puts the listing of any bytes at the front of `out`, and answers its length; 26 exactly if `out` is shorter.

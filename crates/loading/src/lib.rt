@@ -114,7 +114,11 @@ fn read_whole(rt: &impl Files, path: &[u8], bytes: &mut [u8]) -> io::Result<Opti
 }
 
 // Reads the file at a path, and answers its length; none if it was not read, and why is printed.
-fn load(rt: &(impl Files + Print + Eprint), path: &[u8], bytes: &mut [u8]) -> io::Result<Option<usize>>
+fn load(
+    rt: &(impl Files + Print + Eprint),
+    path: &[u8],
+    bytes: &mut [u8],
+) -> io::Result<Option<usize>>
     ensures fits { IfOk result (λ loaded. Fits loaded bytes.new) }
     ensures size { length bytes.new ≡ length bytes.old }
 {

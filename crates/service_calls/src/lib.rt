@@ -27,9 +27,9 @@ pub fn correct_out(
     ensures { Corrected buffer.old file_length «record».now
         result place.new length_after.new buffer.new }
 {
-    let outcome = correct(buffer, file_length as usize, record);
-    let answer = outcome.answer;
+    let corrected = correct(buffer, file_length as usize, record);
+    *length_after = corrected.map_or(file_length, |length| length as u64);
+    let answer = corrected.map(|_| ());
     *place = place_of(answer);
-    *length_after = outcome.length as u64;
     number_of(answer)
 }

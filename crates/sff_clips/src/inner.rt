@@ -13,6 +13,7 @@ use sff_format::{ReadView, Span};
 use sff_walk::BasePosition;
 
 // What a left and a right clip of a read may hold at most.
+#[tactic(auto, unfolding(sff_format::specs::Rules::left_limit))]
 fn left_limit(bases: usize) -> BasePosition
     requires { bases < 4294967296 }
     ensures { result.0 ≡ left_limit bases }
@@ -20,6 +21,7 @@ fn left_limit(bases: usize) -> BasePosition
     BasePosition(bases)
 }
 
+#[tactic(auto, unfolding(sff_format::specs::Rules::right_limit))]
 fn right_limit(bases: usize) -> BasePosition
     requires { bases < 4294967296 }
     ensures { result.0 ≡ right_limit bases }

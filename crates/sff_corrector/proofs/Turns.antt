@@ -7,8 +7,12 @@ use native.Mathlib.Omega.{arith}
 use native.Mathlib.Numerals.{add-one}
 use borrow.Author.Tests.{lt-ltb}
 use lib.ListN.{length, take}
+use Rattle.std.specs.Prelude.{Option, Some, Result, Ok, Err}
+use Rattle.std.specs.Result.{IsErr, IsErrAnd}
 use Rattle.octets.specs.Numbers.{Bytes}
 use Rattle.octets.proofs.AllBytes.{bytes_take}
+use Rattle.answers.specs.declared.Refusal.{Refusal}
+use Rattle.answers.specs.Causes.{number}
 use Rattle.answers.specs.Answer.{Answer, Accepted, Refused, when, ◌then◌}
 use Rattle.sff_format.specs.Writing.{Outcome}
 use Rattle.answers.proofs.Rows.{row-holds}
@@ -34,34 +38,41 @@ use Rattle.correction_format.proofs.Carried.{refused_outcome, refused_buffer, do
 use Rattle.correction_format.proofs.Carried.{done-front, done_valid, done-accepted, done_parsed}
 use Rattle.correction_format.proofs.Carried.{test_file, test_reasons, test_from_20, test_from_file, test_from_21}
 use Rattle.correction_format.proofs.ListTurns.{turn_on, turn_stop, list_20, list_run, list_none}
-use Rattle.sff_corrector.specs.declared.Carried.{Carried}
-use Rattle.sff_corrector.specs.declared.Carried.TheVariants.{Out, Stopped}
-use Rattle.sff_corrector.specs.declared.Start.{Start}
-use Rattle.sff_corrector.specs.Carried.{outcome_of, known_at, AcceptedFront, AcceptedAfter}
+use Rattle.sff_find.specs.declared.inner.Mark.{Mark}
+use Rattle.sff_corrector.specs.declared.CarriedOut.{CarriedOut}
+use Rattle.sff_corrector.specs.Carried.{carried_outcome, AcceptedFront, AcceptedAfter}
+
+-- what came of a record
+abbrev Carried : Type 0
+Carried = Result CarriedOut Refusal
 
 -- what is told of a record that is refused
 module _ (buffer : List ℕ) (len : ℕ) (r : List ℕ) where
-  pub stopped : {n p : ℕ} → Refused n p ≡ correct_test buffer len r
-      → (outcome_of len (Stopped n p) ≡ correct_outcome buffer len r) × ((buffer ≡ correct_buffer buffer len r) × Unit {0})
-  stopped e = (sym (refused_outcome buffer len r (sym e)), (sym (refused_buffer buffer len r (sym e)), tt))
+  pub stopped : (x : Refusal) → Refused (number x.0) x.1 ≡ correct_test buffer len r
+      → (carried_outcome len (Err x) ≡ correct_outcome buffer len r) × ((buffer ≡ correct_buffer buffer len r) × Unit {0})
+  stopped x e = (sym (refused_outcome buffer len r (sym e)), (sym (refused_buffer buffer len r (sym e)), tt))
+
+  -- the same where a `?` hands the refusal back
+  pub stopped_back : (v : Carried) (x : Refusal) → IsErr v × IsErrAnd v (λ y. y ≡ x) → Refused (number x.0) x.1 ≡ correct_test buffer len r
+      → (carried_outcome len v ≡ correct_outcome buffer len r) × ((buffer ≡ correct_buffer buffer len r) × AcceptedAfter buffer v)
+  stopped_back (Ok w) x (h, k) e = absurd k
+  stopped_back (Err y) x (h, k) e = rw k (stopped x e)
 
   pub stop_14 : length buffer < len → Refused 14 0 ≡ correct_test buffer len r
   unfolding correct_test ◌then◌ when
   stop_14 h = rw (lt-ltb (length buffer) len h)
 
   module _ (h : len ≤ length buffer) where
-    pub stop_20 : {n p : ℕ} {a : Answer} → a ≡ record_test r → a ≡ Refused n p → Refused n p ≡ correct_test buffer len r
+    pub stop_20 : {n p : ℕ} → Refused n p ≡ record_test r → Refused n p ≡ correct_test buffer len r
     unfolding ◌then◌
-    stop_20 e t = sym (test_from_20 buffer len r h ∙ rw (← e, t))
+    stop_20 e = sym (test_from_20 buffer len r h ∙ rw (← e))
 
-    module _ (q : record_test r ≡ Accepted) where
-      pub stop-file : {n p : ℕ} {a : Answer} → a ≡ file_test (take len buffer) → a ≡ Refused n p
-          → Refused n p ≡ correct_test buffer len r
-      unfolding ◌then◌
-      stop-file e t = sym (test_from_file buffer len r h q ∙ rw (← e, t))
+    pub stop-file : Accepted ≡ record_test r → {n p : ℕ} → Refused n p ≡ file_test (take len buffer) → Refused n p ≡ correct_test buffer len r
+    unfolding ◌then◌
+    stop-file q e = sym (test_from_file buffer len r h (sym q) ∙ rw (← e))
 
   -- on an accepted file, where the record's own fields ask for what it says
-  module _ {from : Start} (s : AcceptedFront buffer len from) (q : record_test r ≡ Accepted) (x : Fields) (o : x ≡ fields_at (position r) r) where
+  module _ {from : Option Mark} (s : AcceptedFront buffer len from) (q : record_test r ≡ Accepted) (x : Fields) (o : x ≡ fields_at (position r) r) where
     pub stop_21 : {t : Bool} → ((room : ℕ) → t ≡ position_above room (asked x r) (parse (take len buffer))) → t ≡ true
         → Refused 21 0 ≡ correct_test buffer len r
     unfolding reasons
@@ -109,7 +120,7 @@ module _ (buffer : List ℕ) (len : ℕ) (r : List ℕ) where
           )
 
       pub ready : {n : ℕ} {b : List ℕ} {q i : ℕ} → n ≡ length (corrected buffer len r) → b ≡ file_replaced (corrected buffer len r) len buffer
-          → i ≡ position r → q ≡ read_place (take len buffer) i → AcceptedFront b n (known_at i q)
+          → i ≡ position r → q ≡ read_place (take len buffer) i → AcceptedFront b n (Some (record { position = i; place = q }))
       ready {n} {b} {q} {i} m f k g =
           rw (m, f)
           (
@@ -121,78 +132,78 @@ module _ (buffer : List ℕ) (len : ℕ) (r : List ℕ) where
           )
 
   -- the answer in what is told
-  answer_told : (v : Carried) → outcome_of len v ≡ correct_outcome buffer len r → (outcome_of len v).answer ≡ correct_test buffer len r
+  answer_told : (v : Carried) → carried_outcome len v ≡ correct_outcome buffer len r → (carried_outcome len v).answer ≡ correct_test buffer len r
   unfolding correct_outcome
   answer_told v e = ap (λ (o : Outcome). o.answer) e
 
 -- the same of what came of a record, and of the case that this is
-pub told_as : (len : ℕ) {v w : Carried} {o : Outcome} → v ≡ w → outcome_of len v ≡ o → outcome_of len w ≡ o
-told_as len c e = sym (ap (outcome_of len) c) ∙ e
-
-pub out_ready : {b : List ℕ} {v : Carried} {n i p : ℕ} → v ≡ Out n i p → AcceptedAfter b v → AcceptedFront b n (known_at i p)
-out_ready c o = rw c at o
+pub told_as : (len : ℕ) {v w : Carried} {o : Outcome} → v ≡ w → carried_outcome len v ≡ o → carried_outcome len w ≡ o
+told_as len c e = sym (ap (carried_outcome len) c) ∙ e
 
 -- the record at position k of a list was tried, and m come after it
 module _ (b : List ℕ) (len : ℕ) (l : List ℕ) (k : ℕ) (v : Carried) {b' : List ℕ}
-    (e : outcome_of len v ≡ correct_outcome b len (record_at k l)) (f : b' ≡ correct_buffer b len (record_at k l)) where
-  tested : {w : Carried} → v ≡ w → correct_test b len (record_at k l) ≡ (outcome_of len w).answer
-  tested c = sym (answer_told b len (record_at k l) v e) ∙ ap (λ (w : Carried). (outcome_of len w).answer) c
+    (e : carried_outcome len v ≡ correct_outcome b len (record_at k l)) (f : b' ≡ correct_buffer b len (record_at k l)) where
+  tested : {w : Carried} → v ≡ w → correct_test b len (record_at k l) ≡ (carried_outcome len w).answer
+  tested c = sym (answer_told b len (record_at k l) v e) ∙ ap (λ (w : Carried). (carried_outcome len w).answer) c
 
-  tried_same : {x i p : ℕ} → v ≡ Out x i p → length b' ≡ length b
+  tried_same : {w : CarriedOut} → v ≡ Ok w → length b' ≡ length b
   tried_same c = ap length (f ∙ done-buffer b len (record_at k l) (tested c)) ∙ done-length b len (record_at k l) (tested c)
 
-  tried_on : (m : ℕ) {x i p : ℕ} → v ≡ Out x i p → turns (suc m) k b len l ≡ turns m (suc k) b' x l
-  tried_on m {x} c =
+  tried_on : (m : ℕ) {w : CarriedOut} → v ≡ Ok w → turns (suc m) k b len l ≡ turns m (suc k) b' w.length l
+  tried_on m {w} c =
       let r : List ℕ = record_at k l in
       let t = tested c in
-      let n : x ≡ length (corrected b len r) = ap (λ (o : Outcome). o.length) (told_as len c e ∙ done-outcome b len r t) in
+      let n : w.length ≡ length (corrected b len r) = ap (λ (o : Outcome). o.length) (told_as len c e ∙ done-outcome b len r t) in
       let eb : b' ≡ file_replaced (corrected b len r) len b = f ∙ done-buffer b len r t in
       turn_on m k b len l t ∙ rw (n, eb)
 
-  tried_stop : (m : ℕ) {x p : ℕ} → v ≡ Stopped x p → turns (suc m) k b len l ≡ ran k (Refused x p) len b'
-  tried_stop m {x} {p} c =
+  tried_stop : (m : ℕ) {x : Refusal} → v ≡ Err x → turns (suc m) k b len l ≡ ran k (Refused (number x.0) x.1) len b'
+  tried_stop m {x} c =
       let eb : b' ≡ b = f ∙ refused_buffer b len (record_at k l) (tested c) in
-      turn_stop m k b len l x p (tested c) ∙ ap (ran k (Refused x p) len) (sym eb)
+      turn_stop m k b len l (number x.0) x.1 (tested c) ∙ ap (ran k (Refused (number x.0) x.1) len) (sym eb)
 
 -- The invariant of the loop over a list: k records are carried out, and what is to come is the rest.
-pub record ListInvariant (n : ℕ) (b₀ : List ℕ) (len₀ : ℕ) (l b : List ℕ) (k len i p : ℕ) : Type 0 where
+pub record ListInvariant (n : ℕ) (b₀ : List ℕ) (len₀ : ℕ) (l b : List ℕ) (k : ℕ) (left : CarriedOut) : Type 0 where
   pub low : k ≤ n
   pub whole : 96 * n ≤ length l
   pub same : length b ≡ length b₀
-  pub ready : AcceptedFront b len (known_at i p)
-  pub is : turns (n - 1) 1 b₀ len₀ l ≡ turns (n - k) k b len l
+  pub ready : AcceptedFront b left.length (Some left.read)
+  pub is : turns (n - 1) 1 b₀ len₀ l ≡ turns (n - k) k b left.length l
 
 -- what a run told so far
 told : {count : ℕ} {a : Answer} {len : ℕ} {b : List ℕ} {t : Run} → t ≡ ran count a len b
     → (record { count = count; answer = a; length = len } ≡ t.outcome) × (b ≡ t.buffer)
 told e = (sym (ap (λ (x : Run). x.outcome) e), sym (ap (λ (x : Run). x.buffer) e))
 
-module _ {n : ℕ} {b₀ : List ℕ} {len₀ : ℕ} {l b : List ℕ} {k len i p : ℕ} (g : ListInvariant n b₀ len₀ l b k len i p) where
+module _ {n : ℕ} {b₀ : List ℕ} {len₀ : ℕ} {l b : List ℕ} {k : ℕ} {left : CarriedOut} (g : ListInvariant n b₀ len₀ l b k left) where
   pub list_done : n ≤ k
-      → (record { count = k; answer = Accepted; length = len } ≡ (turns (n - 1) 1 b₀ len₀ l).outcome) × (b ≡ (turns (n - 1) 1 b₀ len₀ l).buffer)
+      → (record { count = n; answer = Accepted; length = left.length } ≡ (turns (n - 1) 1 b₀ len₀ l).outcome) × (b ≡ (turns (n - 1) 1 b₀ len₀ l).buffer)
   unfolding turns
-  list_done h = let z : n - k ≡ 0 = omega arith in told (g.is ∙ rw z)
+  list_done h =
+      let z : n - k ≡ 0 = omega arith in
+      let e : k ≡ n = omega (arith, g.low, h) in
+      told (g.is ∙ rw (z, e))
 
   module _ (h : k < n) (v : Carried) {b' : List ℕ}
-      (e : outcome_of len v ≡ correct_outcome b len (record_at k l)) (f : b' ≡ correct_buffer b len (record_at k l)) where
+      (e : carried_outcome left.length v ≡ correct_outcome b left.length (record_at k l)) (f : b' ≡ correct_buffer b left.length (record_at k l)) where
     next : n - k ≡ suc (n - (k + 1))
     next = omega arith
 
-    pub list_more : {x j q : ℕ} → v ≡ Out x j q → AcceptedAfter b' v → ListInvariant n b₀ len₀ l b' (k + 1) x j q
-    list_more {x} {j} {q} c o =
-        let u : turns (n - k) k b len l ≡ turns (n - (k + 1)) (k + 1) b' x l =
-        ap (λ (i : ℕ). turns i k b len l) next ∙ tried_on b len l k v e f (n - (k + 1)) c ∙ rw (add-one k) in
+    pub list_more : {w : CarriedOut} → v ≡ Ok w → AcceptedFront b' w.length (Some w.read) → ListInvariant n b₀ len₀ l b' (k + 1) w
+    list_more {w} c o =
+        let u : turns (n - k) k b left.length l ≡ turns (n - (k + 1)) (k + 1) b' w.length l =
+        ap (λ (i : ℕ). turns i k b left.length l) next ∙ tried_on b left.length l k v e f (n - (k + 1)) c ∙ rw (add-one k) in
         record {
           low = omega arith;
           whole = g.whole;
-          same = tried_same b len l k v e f c ∙ g.same;
-          ready = out_ready c o;
+          same = tried_same b left.length l k v e f c ∙ g.same;
+          ready = o;
           is = g.is ∙ u;
         }
 
-    pub list_stop : {x p : ℕ} → v ≡ Stopped x p
-        → (record { count = k; answer = Refused x p; length = len } ≡ (turns (n - 1) 1 b₀ len₀ l).outcome) × (b' ≡ (turns (n - 1) 1 b₀ len₀ l).buffer)
-    list_stop c = told (g.is ∙ ap (λ (i : ℕ). turns i k b len l) next ∙ tried_stop b len l k v e f (n - (k + 1)) c)
+    pub list_stop : {x : Refusal} → v ≡ Err x
+        → (record { count = k; answer = Refused (number x.0) x.1; length = left.length } ≡ (turns (n - 1) 1 b₀ len₀ l).outcome) × (b' ≡ (turns (n - 1) 1 b₀ len₀ l).buffer)
+    list_stop c = told (g.is ∙ ap (λ (i : ℕ). turns i k b left.length l) next ∙ tried_stop b left.length l k v e f (n - (k + 1)) c)
 
 -- a list before its loop
 module _ (b : List ℕ) (len : ℕ) (l : List ℕ) where
@@ -206,16 +217,16 @@ module _ (b : List ℕ) (len : ℕ) (l : List ℕ) where
     list_none_told z = told (list_none b len l w z)
 
     module _ (z : length l / 96 ≡ 0 → ⊥) (v : Carried) {b' : List ℕ}
-        (e : outcome_of len v ≡ correct_outcome b len (record_at 0 l)) (f : b' ≡ correct_buffer b len (record_at 0 l)) where
+        (e : carried_outcome len v ≡ correct_outcome b len (record_at 0 l)) (f : b' ≡ correct_buffer b len (record_at 0 l)) where
       some : run_list b len l ≡ turns (suc (length l / 96 - 1)) 0 b len l
       some = let n : length l / 96 ≡ suc (length l / 96 - 1) = omega arith in list_run b len l w ∙ ap (λ (i : ℕ). turns i 0 b len l) n
 
-      pub first-stop : {x p : ℕ} → v ≡ Stopped x p
-          → (record { count = 0; answer = Refused x p; length = len } ≡ (run_list b len l).outcome) × (b' ≡ (run_list b len l).buffer)
+      pub first-stop : {x : Refusal} → v ≡ Err x
+          → (record { count = 0; answer = Refused (number x.0) x.1; length = len } ≡ (run_list b len l).outcome) × (b' ≡ (run_list b len l).buffer)
       first-stop c = told (some ∙ tried_stop b len l 0 v e f (length l / 96 - 1) c)
 
-      pub first_run : {x i p : ℕ} {o : ListOutcome} {b'' : List ℕ} → v ≡ Out x i p
-          → o ≡ (turns (length l / 96 - 1) 1 b' x l).outcome → b'' ≡ (turns (length l / 96 - 1) 1 b' x l).buffer
+      pub first_run : {w : CarriedOut} {o : ListOutcome} {b'' : List ℕ} → v ≡ Ok w
+          → o ≡ (turns (length l / 96 - 1) 1 b' w.length l).outcome → b'' ≡ (turns (length l / 96 - 1) 1 b' w.length l).buffer
           → (o ≡ (run_list b len l).outcome) × (b'' ≡ (run_list b len l).buffer)
       first_run c d g =
           let t = some ∙ tried_on b len l 0 v e f (length l / 96 - 1) c in

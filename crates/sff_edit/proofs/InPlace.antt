@@ -6,13 +6,12 @@ use mathlib.Core.Bool.{false}
 use mathlib.Core.Logic.{◌⊎◌, inl, inr}
 use mathlib.Core.List.{List, [], ◌∷◌, ◌++◌, append_assoc, append-nil}
 use native.Mathlib.Omega.{arith}
-use borrow.Author.Tests.{eq-eqb}
 use lib.ListN.{length, take, drop, length-append, length-take, length-drop}
 use lib.Seq.{length-take-le, take-take, take_at, drop_at}
 use Rattle.octets.specs.Parts.{part, put_at, filled, filled_front, spliced, up8}
 use Rattle.octets.specs.Numbers.{Bytes, number, bytes_of, fields, words, unit_bytes, units_at, words_at}
-use Rattle.octets.proofs.Lists.{length_put, put_over, put_next, length_part}
-use Rattle.octets.proofs.AllBytes.{bytes_take}
+use Rattle.octets.proofs.Lists.{part_in, part_put, length_put, put_over, put_next, length_part}
+use Rattle.octets.proofs.AllBytes.{bytes_take, bytes-part}
 use Rattle.octets.proofs.Digits.{length-bytes_of}
 use Rattle.octets.proofs.Inserts.{drop-rest}
 use Rattle.octets.proofs.Stands.{stands_read, units_stand, length_units, length_fields_lem, length-filled, field_filled, number-take}
@@ -31,7 +30,8 @@ use Rattle.sff_format.proofs.ReadLaid.{fits_16, section_is, section_fits, data_f
 use Rattle.sff_format.proofs.Places.{read_found, read_split, read_changed, read_gone}
 use Rattle.sff_format.proofs.Positions.{read-accepted}
 use Rattle.correction_format.specs.declared.Fields.{Fields}
-use Rattle.correction_format.specs.Record.{new_length, new_name, record_test}
+use Rattle.correction_format.specs.declared.Kind.TheVariants.{Clips, Rename, Remove}
+use Rattle.correction_format.specs.Record.{kind, new_length, new_name, record_test}
 use Rattle.correction_format.specs.Correction.{rename, remove, is_clips}
 use Rattle.correction_format.specs.RecordLayout.{change_in}
 use Rattle.correction_format.specs.Fields.{FieldsOf, asked}
@@ -39,7 +39,7 @@ use Rattle.correction_format.specs.Edit.{clipped, renamed, replacement, target, 
 use Rattle.correction_format.specs.Reasons.{reasons}
 use Rattle.correction_format.specs.Correct.{file_replaced}
 use Rattle.correction_format.proofs.Records.{record_96, new-size, new-zeros}
-use Rattle.correction_format.proofs.Asked.{kind_of_lem, clips-asked, rename-asked, remove-asked, new_length_of, new-inside}
+use Rattle.correction_format.proofs.Asked.{renamed-by, kind_of_lem, clips-asked, rename-asked, remove-asked, new_length_of, new-inside}
 use Rattle.correction_format.proofs.Edited.{clipped-size, reasons-position, reasons-index, reasons_room}
 use Rattle.correction_format.proofs.EditedSizes.{clips-size, name-size, edited-length}
 use Rattle.sff_edit.specs.Edits.{afresh, clipped_at, name_room, renamed_at, removed_at}
@@ -72,14 +72,18 @@ pieces front x back =
     let e : up8 (16 + length x.name) - (16 + length x.name) ≡ name_room (length x.name) - length x.name = omega arith in
     rw (l, e) (simp (append_assoc, append-nil))
 
--- the field of four clips holds what a record's fields say
-clips_field : (x : Fields) (r : List ℕ) → FieldsOf x r → Bytes r → length r ≡ 96
+-- the field of four clips, which holds bytes, holds what a record's fields say
+clips_field : (x : Fields) (r : List ℕ) → FieldsOf x r → length r ≡ 96 → Bytes (part 8 8 r)
     → part 8 8 r ≡ words (x.quality_left ∷ x.quality_right ∷ x.adapter_left ∷ x.adapter_right ∷ [])
-unfolding units_at
-clips_field x r o z h =
-    let l : length (words (words_at 4 8 r)) ≡ 8 = length_units 2 (words_at 4 8 r) in
-    stands_read 8 8 (words (words_at 4 8 r)) r l (units_stand 2 r z 4 8 (omega arith))
-    ∙ (λ j. words ((sym o j).quality_left ∷ (sym o j).quality_right ∷ (sym o j).adapter_left ∷ (sym o j).adapter_right ∷ []))
+unfolding units_at number
+clips_field x r o h z =
+    let l : length (part 8 8 r) ≡ 8 = length_part 8 8 r (omega arith) in
+    let n : (k : ℕ) → k + 2 ≤ 8 → part k 2 (part 8 8 r) ≡ part (8 + k) 2 r = λ k m. part_in k 2 8 8 r m (omega arith) in
+    let e : part 0 8 (part 8 8 r) ≡ words (words_at 4 0 (part 8 8 r)) =
+    stands_read 0 8 (words (words_at 4 0 (part 8 8 r))) (part 8 8 r) (length_units 2 (words_at 4 0 (part 8 8 r))) (units_stand 2 (part 8 8 r) z 4 0 (omega arith)) in
+    sym (part_in 0 8 8 8 r (omega arith) (omega arith)) ∙ e
+    ∙ rw (n 0 (omega arith), n 2 (omega arith), n 4 (omega arith), n 6 (omega arith))
+    (λ j. words ((sym o j).quality_left ∷ (sym o j).quality_right ∷ (sym o j).adapter_left ∷ (sym o j).adapter_right ∷ []))
 
 -- a name and its two lengths, put one after another
 pub name_put : (p len n : ℕ) (field b : List ℕ) {old new : ℕ} {s t u : List ℕ} →
@@ -199,7 +203,7 @@ module _ {buffer : List ℕ} {len p : ℕ} {x : Fields} {r : List ℕ} (s : Read
   held = let m : max len (length file) ≡ len = omega (arith, size) in rw m (filled_front_front file len buffer refl s.inside)
 
   -- new clips
-  module _ (k : x.kind ≡ 1) where
+  module _ (k : x.kind ≡ Clips) where
     abbrev new_clips : List ℕ
     new_clips = words (x.quality_left ∷ x.quality_right ∷ x.adapter_left ∷ x.adapter_right ∷ [])
 
@@ -221,9 +225,11 @@ module _ {buffer : List ℕ} {len p : ℕ} {x : Fields} {r : List ℕ} (s : Read
         let f : u ++ (new_clips ++ w) ≡ new = sym (afresh-clips ∙ pieces front clipped_read back ∙ simp append_assoc) in
         ap (put_at (p + 8) new_clips) e ∙ (rw l at (put_over u new_clips (clip_bytes read) w m)) ∙ f
 
-    pub clips-done : Bytes r → {field b : List ℕ} → field ≡ part 8 8 r → b ≡ clipped_at p field buffer → (len ≡ length new) × (b ≡ file_replaced new len buffer)
-    clips-done z f g =
-        let e = g ∙ ap (λ (xs : List ℕ). put_at (p + 8) xs buffer) (f ∙ clips_field x r s.fields_are z (record_96 r s.formed)) in
+    pub clips-done : {field b : List ℕ} → Bytes b → field ≡ part 8 8 r → b ≡ clipped_at p field buffer → (len ≡ length new) × (b ≡ file_replaced new len buffer)
+    clips-done {b = b} z f g =
+        let h : part (p + 8) 8 b ≡ part 8 8 r = rw (g, f) (part_put (p + 8) 8 (part 8 8 r) buffer ready_clips (omega (arith, ready_read, s.inside))) in
+        let y : Bytes (part 8 8 r) = rw h at (bytes-part (p + 8) 8 b z) in
+        let e = g ∙ ap (λ (xs : List ℕ). put_at (p + 8) xs buffer) (f ∙ clips_field x r s.fields_are ready_record y) in
         let n : length new_clips ≡ 8 = length_units 2 _ in (
           sym (clips-size (asked x r) (parse file) counted _ _ _ _ (clips-asked x r s.fields_are k) ∙ laid),
           e ∙ ap (put_at (p + 8) new_clips) (sym held) ∙ over_put (p + 8) new_clips file len buffer (omega (arith, ready_start))
@@ -252,7 +258,7 @@ module _ {buffer : List ℕ} {len p : ℕ} {x : Fields} {r : List ℕ} (s : Read
   section_least = omega (arith, section)
 
   -- a new name
-  module _ (k : x.kind ≡ 2) where
+  module _ (k : x.kind ≡ Rename) where
     abbrev name : List ℕ
     name = new_name r
 
@@ -309,7 +315,7 @@ module _ {buffer : List ℕ} {len p : ℕ} {x : Fields} {r : List ℕ} (s : Read
         let n = ap (λ (y : Fields). y.new_length) s.fields_are in
         let i = name_inside in
         let w : ℕ = name_room (new_length r) in
-        let z = new-zeros r s.formed (eq-eqb _ 2 (sym (kind_of_lem x r s.fields_are) ∙ k)) in
+        let z = new-zeros r s.formed (renamed-by (kind r) (sym (kind_of_lem x r s.fields_are) ∙ k)) in
         rw (n, new-size r s.formed, take-take w 40 (drop 56 r) (omega arith))
         (field_filled 56 (new_length r) 40 w r (omega (arith, ready_record)) z (omega arith) (omega arith))
 
@@ -328,12 +334,12 @@ module _ {buffer : List ℕ} {len p : ℕ} {x : Fields} {r : List ℕ} (s : Read
         )
 
   -- the read left out
-  module _ (k : x.kind ≡ 1 → ⊥) (l : x.kind ≡ 2 → ⊥) where
+  module _ (k : x.kind ≡ Remove) where
     abbrev left : List ℕ
     left = front ++ back
 
     gone : change_in r ≡ remove
-    gone = remove-asked x r s.fields_are k l
+    gone = remove-asked x r s.fields_are k
 
     pub reads-least : 1 ≤ read_count buffer
     reads-least = omega (arith, number_is 4 20 (omega (arith, ready_header)), below)

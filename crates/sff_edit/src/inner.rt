@@ -7,17 +7,16 @@ ghost use Rattle.sff_format.specs.ReadTest.{section_length};
 ghost use Rattle.sff_format.specs.FileTest.{file_test};
 ghost use Rattle.sff_format.specs.Parse.{parse};
 ghost use Rattle.sff_format.specs.Places.{read_place};
-ghost use Rattle.correction_format.specs.Record.{record_test};
-ghost use Rattle.correction_format.specs.Fields.{FieldsOf, asked};
+ghost use Rattle.correction_format.specs.Fields.{asked};
 ghost use Rattle.correction_format.specs.Reasons.{reasons};
 ghost use Rattle.correction_format.specs.Correct.{file_replaced};
 ghost use Rattle.sff_edit.specs.Edits.{afresh, clipped_at, renamed_at, removed_at};
 
 use buffers::inner::{copy, put16, put32};
-use correction_format::Fields;
+use correction_format::Kind;
 use octets::inner::{get16, get32, up8};
 use sff_read::inner::read_end;
-use sff_record::inner::{new_clips_field, new_name_field};
+use sff_record::inner::Record;
 use splice::inner::{cut, splice};
 
 // Gives the read at `place` the four new clips.
@@ -66,29 +65,29 @@ fn take_out(buffer: &mut [u8], len: usize, place: usize, size: usize) -> usize
     len - size
 }
 
-// Carries out a record for which no reason holds, by its fields, on the file that fills the first `len` bytes of the
-// buffer and whose read stands at `place`. Answers the file's length afterwards.
-pub fn apply(buffer: &mut [u8], len: usize, place: usize, fields: Fields, record: &[u8]) -> usize
+// Carries out a record for which no reason holds on the file that fills the first `len` bytes of the buffer and whose
+// read stands at `place`. Answers the file's length afterwards.
+pub fn apply(buffer: &mut [u8], len: usize, place: usize, record: &Record) -> usize
     requires len_in_bounds { len ≤ length buffer.old }
     requires buffer_value { file_test (take len buffer.old) ≡ Accepted }
-    requires record_value { record_test «record».now ≡ Accepted }
-    requires fields_of { FieldsOf fields «record».now }
-    requires place_value { place ≡ read_place (take len buffer.old) fields.position }
-    requires buffer_value_2 { reasons (length buffer.old) (asked fields «record».now) (parse (take len buffer.old)) ≡ Accepted }
-    ensures value { result ≡ length (afresh (asked fields «record».now) len buffer.old) }
-    ensures buffer_after { buffer.new ≡ file_replaced (afresh (asked fields «record».now) len buffer.old) len buffer.old }
+    requires place_value { place ≡ read_place (take len buffer.old) «record».now.fields.position }
+    requires buffer_value_2 { reasons (length buffer.old) (asked «record».now.fields «record».now.bytes.now) (parse (take len buffer.old)) ≡ Accepted }
+    ensures value { result ≡ length (afresh (asked «record».now.fields «record».now.bytes.now) len buffer.old) }
+    ensures buffer_after { buffer.new ≡ file_replaced (afresh (asked «record».now.fields «record».now.bytes.now) len buffer.old) len buffer.old }
 {
-    let kind = fields.kind;
-    if kind == 1 {
-        let clips = new_clips_field(record);
-        put_clips(buffer, place, clips);
-        return len;
+    match record.fields.kind {
+        Kind::Clips => {
+            put_clips(buffer, place, record.new_clips_field());
+            len
+        }
+        Kind::Rename => {
+            let field = record.new_name_field();
+            put_name(buffer, len, place, record.fields.new_length, field)
+        }
+        Kind::Remove => {
+            let flows = get16(buffer, 28);
+            let end = read_end(&buffer[..len], place, flows);
+            take_out(buffer, len, place, end - place)
+        }
     }
-    if kind == 2 {
-        let field = new_name_field(record);
-        return put_name(buffer, len, place, fields.new_length, field);
-    }
-    let flows = get16(buffer, 28);
-    let end = read_end(&buffer[..len], place, flows);
-    take_out(buffer, len, place, end - place)
 }

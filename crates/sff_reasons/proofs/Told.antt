@@ -4,15 +4,18 @@ use mathlib.Core.Path.{◌≡◌, refl, sym, ap, ◌∙◌}
 use mathlib.Core.Bool.{Bool, true, false, not}
 use mathlib.Core.List.{List, []}
 use native.Mathlib.Omega.{arith}
-use borrow.Author.Tests.{not-false, ltb-true, ltb-false, lt-ltb, le-ltb, ne_eqb}
-use lib.Dec.{ltb, eqb}
+use denote.Enum.Bare.{sameb}
+use borrow.Author.Tests.{not-false, ltb-true, ltb-false, lt-ltb, le-ltb, leb-true, leb-false}
+use lib.Dec.{ltb, leb}
 use lib.ListN.{length, drop}
+use Rattle.std.specs.Prelude.{Result, Ok, Err}
+use Rattle.std.specs.Result.{is_err}
 use Rattle.octets.specs.Parts.{part, same, up8}
 use Rattle.octets.specs.Numbers.{Bytes}
+use Rattle.octets.proofs.AllBytes.{bytes_of_lem}
 use Rattle.octets.proofs.Lists.{length_part}
-use Rattle.octets.proofs.Same.{same-lengths}
-use Rattle.answers.specs.Answer.{Answer, Accepted, Refused, accepted_or}
-use Rattle.answers.proofs.Answers.{cond_keeps}
+use Rattle.answers.specs.declared.Refusal.{Refusal}
+use Rattle.answers.specs.Answer.{Accepted, Refused, answer_of, accepted_or}
 use Rattle.answers.specs.Rows.{Row, first_row}
 use Rattle.answers.proofs.Rows.{row-holds, row-not}
 use Rattle.sff_format.specs.Rules.{declared}
@@ -29,20 +32,73 @@ use Rattle.sff_format.proofs.FileLaid.{head_ok, reads-counted, index-passed, fil
 use Rattle.sff_format.proofs.Places.{read_found}
 use Rattle.sff_format.proofs.Positions.{read-accepted}
 use Rattle.correction_format.specs.declared.Fields.{Fields}
-use Rattle.correction_format.specs.Record.{record_test, kind, old_name, new_name, new_quality_left, new_quality_right, new_adapter_left, new_adapter_right}
-use Rattle.correction_format.specs.Correction.{Change, clips, rename, remove, is_clips}
+use Rattle.correction_format.specs.declared.Kind.{Kind}
+use Rattle.correction_format.specs.declared.Kind.TheVariants.{Clips, Rename, Remove}
+use Rattle.correction_format.specs.contracts.Kind.{the_type}
+use Rattle.correction_format.specs.Record.{record_test, old_name, new_name}
+use Rattle.correction_format.specs.Correction.{is_clips}
 use Rattle.correction_format.specs.RecordLayout.{change_in}
 use Rattle.correction_format.specs.Fields.{FieldsOf, asked}
 use Rattle.correction_format.specs.Edit.{target, edited}
 use Rattle.correction_format.specs.Reasons.{has_target, clips_above, others, name_among, new_name_among, position_above, other_name, index_present, clip_above, name_taken, no_room, reason_rows, reasons}
-use Rattle.correction_format.proofs.Asked.{kind_of_lem, clips-asked, rename-asked, new_length_of}
+use Rattle.correction_format.proofs.Asked.{clips-asked, rename-asked, not-clips, not-rename, new_length_of}
 use Rattle.correction_format.proofs.EditedSizes.{clips-size, name-size, none_size}
-use Rattle.sff_reasons.specs.ReadAtPosition.{ReadAtPosition}
+use Rattle.sff_record.specs.declared.inner.Record.{Record}
+use Rattle.sff_reasons.specs.declared.inner.Judged.{Judged}
 
--- a name beside the n bytes at p: they differ where the lengths do
-module _ (name b : List ℕ) (p n : ℕ) {m : ℕ} (e : m ≡ n) where
-  pub names_differ : p + n ≤ length b → (length name ≡ m → ⊥) → false ≡ same name (part p n b)
-  names_differ h d = let z = length_part p n b h in sym (same-lengths name (part p n b) (λ f. d (omega (arith, z, e, f))))
+-- what the code asks of a kind
+pub kind_is : (k j : Kind) → true ≡ sameb the_type k j → k ≡ j
+kind_is Clips Clips e = refl
+kind_is Clips Rename e = absurd (let z : ◌≡◌ {A = ℕ} 0 1 = cc in let f : ⊥ = omega arith in f)
+kind_is Clips Remove e = absurd (let z : ◌≡◌ {A = ℕ} 0 1 = cc in let f : ⊥ = omega arith in f)
+kind_is Rename Clips e = absurd (let z : ◌≡◌ {A = ℕ} 0 1 = cc in let f : ⊥ = omega arith in f)
+kind_is Rename Rename e = refl
+kind_is Rename Remove e = absurd (let z : ◌≡◌ {A = ℕ} 0 1 = cc in let f : ⊥ = omega arith in f)
+kind_is Remove Clips e = absurd (let z : ◌≡◌ {A = ℕ} 0 1 = cc in let f : ⊥ = omega arith in f)
+kind_is Remove Rename e = absurd (let z : ◌≡◌ {A = ℕ} 0 1 = cc in let f : ⊥ = omega arith in f)
+kind_is Remove Remove e = refl
+
+kind_itself : (k : Kind) → sameb the_type k k ≡ true
+kind_itself Clips = refl
+kind_itself Rename = refl
+kind_itself Remove = refl
+
+pub kind_not : (k j : Kind) → false ≡ sameb the_type k j → k ≡ j → ⊥
+kind_not k j e f =
+    let g : false ≡ true = e ∙ rw f (kind_itself j) in
+    let z : ◌≡◌ {A = ℕ} 0 1 = cc in omega arith
+
+turned : (s t : Bool) → s ≡ not t → not s ≡ t
+turned s true e = ap not e
+turned s false e = ap not e
+
+pub kind_differs : (k j : Kind) → true ≡ not (sameb the_type k j) → k ≡ j → ⊥
+kind_differs k j e = kind_not k j (turned true (sameb the_type k j) e)
+
+pub kind_equals : (k j : Kind) → false ≡ not (sameb the_type k j) → k ≡ j
+kind_equals k j e = kind_is k j (turned false (sameb the_type k j) e)
+
+-- an accepted file, and the fields of a well-formed record: the file has a read at their position
+pub record ReadAtPosition (file r : List ℕ) (fields : Fields) : Type 0 where
+  pub bytes : Bytes file
+  pub accepted : file_test file ≡ Accepted
+  pub formed : record_test r ≡ Accepted
+  pub fields_of : FieldsOf fields r
+  pub below : fields.position < read_count file
+
+pub found_by : {b : List ℕ} (t : Record) → Bytes b → file_test b ≡ Accepted → t.fields.position < read_count b
+    → ReadAtPosition b t.bytes.now t.fields
+found_by t z e h = record { bytes = z; accepted = e; formed = t.formed; fields_of = t.fields_of; below = h }
+
+-- what is judged is that
+pub found : (j : Judged) → ReadAtPosition j.file.now j.record.now.bytes.now j.record.now.fields
+found j = found_by j.record.now (bytes_of_lem j.file.now j.bytes_fit) j.accepted j.below
+
+-- a refusal by the code's word
+told_by : {T : Type 0} (v : Result T Refusal) → is_err v ≡ accepted_or (answer_of v) false true
+unfolding accepted_or
+told_by (Ok value) = refl
+told_by (Err refusal) = refl
 
 -- as much is added on both sides of a test
 moved_over : (room n k u v : ℕ) → n ≤ room → v + k ≡ n + u → ltb (room - n + k) u ≡ ltb room v
@@ -54,29 +110,22 @@ moved_over room n k u v h e = go (ltb room v) refl
 
 -- 21 by the header's count
 module _ (b r : List ℕ) (x : Fields) (room : ℕ) where
-  pub above_told : read_count b ≤ x.position → true ≡ position_above room (asked x r) (parse b)
+  pub above_told : {n : ℕ} → n ≡ read_count b → leb n x.position ≡ position_above room (asked x r) (parse b)
   unfolding position_above
-  above_told h = sym (ap not (le-ltb x.position (length (parse b).reads) (rw (reads-counted b) h)))
+  above_told {n} e = go (leb n x.position) refl
+    where
+      m : length (parse b).reads ≡ n
+      m = reads-counted b ∙ sym e
 
-  pub below_told : x.position < read_count b → false ≡ position_above room (asked x r) (parse b)
-  unfolding position_above
-  below_told h = sym (ap not (lt-ltb x.position (length (parse b).reads) (rw (reads-counted b) h)))
+      go : (t : Bool) → leb n x.position ≡ t → t ≡ not (ltb x.position (length (parse b).reads))
+      go true l = sym (ap not (le-ltb x.position _ (let h = leb-true n x.position l in omega (arith, m, h))))
+      go false l = sym (ap not (lt-ltb x.position _ (let h = leb-false n x.position l in omega (arith, m, h))))
 
   pub below-count : position_above room (asked x r) (parse b) ≡ false → x.position < read_count b
   unfolding position_above
   below-count e = rw (reads-counted b) at (ltb-true x.position (length (parse b).reads) (not-false _ e))
 
 module _ {b r : List ℕ} {x : Fields} (s : ReadAtPosition b r x) where
-  -- what holds of every change that a record of another kind asks for
-  not-clips : (P : Change → Type 0) → (x.kind ≡ 1 → ⊥) → P (rename (new_name r)) → P remove → P (change_in r)
-  unfolding change_in
-  not-clips P k h l = rw (ne_eqb (kind r) 1 (λ e. k (kind_of_lem x r s.fields_of ∙ e))) (cond_keeps P (eqb (kind r) 2) _ _ h l)
-
-  not-rename : (P : Change → Type 0) → (x.kind ≡ 2 → ⊥)
-      → P (clips (new_quality_left r) (new_quality_right r) (new_adapter_left r) (new_adapter_right r)) → P remove → P (change_in r)
-  unfolding change_in
-  not-rename P k h l = rw (ne_eqb (kind r) 2 (λ e. k (kind_of_lem x r s.fields_of ∙ e))) (cond_keeps P (eqb (kind r) 1) _ _ h l)
-
   count : x.position < length (parse b).reads
   count = rw (reads-counted b) s.below
 
@@ -93,30 +142,30 @@ module _ {b r : List ℕ} {x : Fields} (s : ReadAtPosition b r x) where
     read-there = ap not has_target_lem
 
     -- an index (25): clips may be changed beside one
-    pub clips_pass : x.kind ≡ 1 → false ≡ index_present room (asked x r) (parse b)
+    pub clips_pass : x.kind ≡ Clips → false ≡ index_present room (asked x r) (parse b)
     unfolding index_present
     clips_pass k = rw (clips-asked x r s.fields_of k)
 
-    pub index_told : (x.kind ≡ 1 → ⊥) → {d : Bool} → d ≡ declared (index_offset b) (index_length b) → d ≡ index_present room (asked x r) (parse b)
+    pub index_told : (x.kind ≡ Clips → ⊥) → {d : Bool} → d ≡ declared (index_offset b) (index_length b) → d ≡ index_present room (asked x r) (parse b)
     unfolding index_present parse
-    index_told k e = rw (not-clips (λ y. is_clips y ≡ false) k refl refl, index-length b (index-passed b s.bytes s.accepted)) e
+    index_told k e = rw (not-clips x r s.fields_of (λ y. is_clips y ≡ false) k refl refl, index-length b (index-passed b s.bytes s.accepted)) e
 
     -- another read's name (24): only a rename can take one
-    pub none_borne : (x.kind ≡ 2 → ⊥) → false ≡ name_taken room (asked x r) (parse b)
+    pub none_borne : (x.kind ≡ Rename → ⊥) → false ≡ name_taken room (asked x r) (parse b)
     unfolding name_taken new_name_among
-    none_borne k = rw (has_target_lem, not-rename (λ y. new_name_among y (others (asked x r) (parse b)) ≡ false) k refl refl)
+    none_borne k = rw (has_target_lem, not-rename x r s.fields_of (λ y. new_name_among y (others (asked x r) (parse b)) ≡ false) k refl refl)
 
-    pub borne_told : x.kind ≡ 2 → {t : Bool} → t ≡ name_among (new_name r) (others (asked x r) (parse b)) → t ≡ name_taken room (asked x r) (parse b)
+    pub borne_told : x.kind ≡ Rename → {t : Bool} → t ≡ name_among (new_name r) (others (asked x r) (parse b)) → t ≡ name_taken room (asked x r) (parse b)
     unfolding name_taken new_name_among
     borne_told k e = rw (has_target_lem, rename-asked x r s.fields_of k) e
 
     -- room (26): only a longer name can lack it
-    pub room_kept : length b ≤ room → (x.kind ≡ 2 → ⊥) → false ≡ no_room room (asked x r) (parse b)
+    pub room_kept : length b ≤ room → (x.kind ≡ Rename → ⊥) → false ≡ no_room room (asked x r) (parse b)
     unfolding no_room
     room_kept h k =
         let c = asked x r in
         let m : length (layout (edited c (parse b))) ≤ length b =
-        not-rename (λ y. change_in r ≡ y → length (layout (edited c (parse b))) ≤ length b) k
+        not-rename x r s.fields_of (λ y. change_in r ≡ y → length (layout (edited c (parse b))) ≤ length b) k
         (λ e. let n = clips-size c (parse b) count _ _ _ _ e in omega (arith, n, laid))
         (λ e. let n = none_size c (parse b) count e in omega (arith, n, laid)) refl in
         let n : length (layout (edited c (parse b))) ≤ room = omega arith in
@@ -156,26 +205,18 @@ module _ {b r : List ℕ} {x : Fields} (s : ReadAtPosition b r x) where
       name_told e = rw (has_target_lem, name_is, e)
 
       -- clips above the bases (23): only kind 1 gives clips
-      pub none_above : (x.kind ≡ 1 → ⊥) → false ≡ clip_above room (asked x r) (parse b)
+      pub none_above : (x.kind ≡ Clips → ⊥) → false ≡ clip_above room (asked x r) (parse b)
       unfolding clip_above clips_above
-      none_above k = rw (has_target_lem, not-clips (λ y. clips_above (length (target (asked x r) (parse b)).bases) y ≡ false) k refl refl)
+      none_above k = rw (has_target_lem, not-clips x r s.fields_of (λ y. clips_above (length (target (asked x r) (parse b)).bases) y ≡ false) k refl refl)
 
-      module _ (k : x.kind ≡ 1) {n : ℕ} (l : n ≡ base_count b p) {a : Answer}
-          (e : a ≡ clip_test 0 n x.quality_left x.quality_right x.adapter_left x.adapter_right) where
-        clips_told : clip_above room (asked x r) (parse b) ≡ accepted_or a false true
-        unfolding clip_above clips_above
-        clips_told = rw (has_target_lem, bases-length, clips-asked x r s.fields_of k, e, l)
-
-        pub some_above : {m q : ℕ} → a ≡ Refused m q → true ≡ clip_above room (asked x r) (parse b)
-        unfolding accepted_or
-        some_above f = sym (clips_told ∙ rw f)
-
-        pub all-within : a ≡ Accepted → false ≡ clip_above room (asked x r) (parse b)
-        unfolding accepted_or
-        all-within f = sym (clips_told ∙ rw f)
+      pub clips_told : x.kind ≡ Clips → {n : ℕ} → n ≡ base_count b p → {T : Type 0} (v : Result T Refusal)
+          → answer_of v ≡ clip_test 0 n x.quality_left x.quality_right x.adapter_left x.adapter_right
+          → is_err v ≡ clip_above room (asked x r) (parse b)
+      unfolding clip_above clips_above
+      clips_told k l v e = sym (rw (has_target_lem, bases-length, clips-asked x r s.fields_of k, ← l, ← e) (sym (told_by v)))
 
       -- 26, by the two header sections
-      pub room_told : x.kind ≡ 2 → length b ≤ room → {k u : ℕ} → k ≡ section_length b p → u ≡ up8 (16 + x.new_length)
+      pub room_told : x.kind ≡ Rename → length b ≤ room → {k u : ℕ} → k ≡ section_length b p → u ≡ up8 (16 + x.new_length)
           → ltb (room - length b + k) u ≡ no_room room (asked x r) (parse b)
       unfolding no_room
       room_told k h e f =
@@ -184,11 +225,6 @@ module _ {b r : List ℕ} {x : Fields} (s : ReadAtPosition b r x) where
           let z : length (layout (edited (asked x r) (parse b))) + section_length b p ≡ length b + up8 (16 + x.new_length) =
           rw (m, ← section_is (flow_characters b) b p there, laid, ← new_length_of x r s.fields_of s.formed) at n in
           rw (has_target_lem, e, f) (moved_over room (length b) (section_length b p) _ _ h z)
-
--- what they are given, from what `reason` is given
-pub found : {b r : List ℕ} {x : Fields} → Bytes b → file_test b ≡ Accepted → record_test r ≡ Accepted → FieldsOf x r
-    → x.position < read_count b → ReadAtPosition b r x
-found z e f o h = record { bytes = z; accepted = e; formed = f; fields_of = o; below = h }
 
 -- The tests in document 01's order: the first that holds gives its number.
 module _ {b r : List ℕ} {x : Fields} (s : ReadAtPosition b r x) (room : ℕ) where

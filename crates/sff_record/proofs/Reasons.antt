@@ -8,7 +8,7 @@ use native.Mathlib.Nat.{add-sub_cancel_left}
 use Rattle.octets.specs.Parts.{part}
 use Rattle.octets.specs.Scans.{fails, is_zero}
 use Rattle.answers.specs.Answer.{Answer, Accepted, Refused, when, ◌then◌}
-use Rattle.answers.proofs.Chains.{refuses, accepts}
+use Rattle.answers.proofs.Chains.{handed_on, handed_back}
 use Rattle.correction_format.specs.Record.{name_field_test, unused_test}
 
 -- bytes from p to p + n
@@ -27,11 +27,13 @@ module _ (p m : ℕ) (r : List ℕ) {n : ℕ} (e : n ≡ m) {x : Answer} (f : x 
   pub name-tested : x ≡ name_field_test p m r
   name-tested = rw (← e) f
 
-  pub name_refuses : (rest : Answer) {k q : ℕ} → x ≡ Refused k q → x ≡ (name_field_test p m r then rest)
-  name_refuses rest g = refuses _ rest name-tested g
+-- the same of a test that a `?` follows: it hands back what it refuses with, and else hands on
+module _ (p m : ℕ) (r : List ℕ) (rest : Answer) {n : ℕ} (e : n ≡ m) {y : Answer} where
+  pub name_refuses : {k q : ℕ} → Refused k q ≡ name_field_test p n r → y ≡ Refused k q → y ≡ (name_field_test p m r then rest)
+  name_refuses f g = handed_back _ rest (rw e at f) g
 
-  pub name_accepts : (rest : Answer) → x ≡ Accepted → {y : Answer} → y ≡ rest → y ≡ (name_field_test p m r then rest)
-  name_accepts rest g h = accepts _ rest name-tested g h
+  pub name_accepts : Accepted ≡ name_field_test p n r → y ≡ rest → y ≡ (name_field_test p m r then rest)
+  name_accepts f g = handed_on _ rest (rw e at f) g
 
 -- what the kind leaves unused is tested
 module _ (t : Bool) (a b : Answer) {x : Answer} where

@@ -1,21 +1,34 @@
-// For the corrector, which has tested the record: hence each `requires`.
+// A record that is well formed, for the crates above: what it says, by its fields and its names.
 ghost use Rattle.std.specs.Prelude.{◌≡◌, length};
 ghost use Rattle.octets.specs.Parts.{part};
 ghost use Rattle.answers.specs.Answer.{Accepted};
 ghost use Rattle.correction_format.specs.Record.{position, old_name, new_name, record_test};
 ghost use Rattle.correction_format.specs.Fields.{fields_at, FieldsOf};
 
-use correction_format::Fields;
+use correction_format::{Fields, Kind};
 use octets::inner::{get16, get32};
 use octets::wide;
 
+// A well-formed record's bytes, and its fields read once.
+#[derive(Clone, Copy)]
+pub struct Record<'a> {
+    pub bytes: &'a [u8],
+    pub fields: Fields,
+    pub ghost formed: { record_test bytes.now ≡ Accepted },
+    pub ghost fields_of: { FieldsOf fields bytes.now },
+}
+
 // The fields of a record, with its own position.
-pub fn record_fields(record: &[u8]) -> Fields
+fn record_fields(record: &[u8]) -> Fields
     requires { length «record».now ≡ 96 }
     ensures { result ≡ fields_at (position «record».now) «record».now }
 {
     Fields {
-        kind: record[0],
+        kind: match record[0] {
+            1 => Kind::Clips,
+            2 => Kind::Rename,
+            _ => Kind::Remove,
+        },
         position: get32(record, 4),
         old_length: wide(record[1]),
         new_length: wide(record[2]),
@@ -26,38 +39,46 @@ pub fn record_fields(record: &[u8]) -> Fields
     }
 }
 
-// The four clips that kind 1 gives the read, in file order.
-pub fn new_clips_field(record: &[u8]) -> &[u8]
-    requires { length «record».now ≡ 96 }
-    ensures { result.now ≡ part 8 8 «record».now }
-{
-    &record[8..16]
-}
+impl<'a> Record<'a> {
+    // The record that the bytes are, with its own position. Tested before: a Result of it is copied, and slower.
+    pub fn new(bytes: &'a [u8]) -> Self
+        requires { record_test bytes.now ≡ Accepted }
+        ensures bytes { result.bytes.now ≡ bytes.now }
+        ensures fields { result.fields ≡ fields_at (position bytes.now) bytes.now }
+    {
+        Record {
+            bytes,
+            fields: record_fields(bytes),
+        }
+    }
 
-// The name that the read must have.
-pub fn old_name(record: &[u8], fields: Fields) -> &[u8]
-    requires record_value { record_test «record».now ≡ Accepted }
-    requires fields_of { FieldsOf fields «record».now }
-    ensures { result.now ≡ old_name «record».now }
-{
-    let end = 16 + fields.old_length;
-    &record[16..end]
-}
+    // The four clips that kind 1 gives the read, in file order.
+    pub fn new_clips_field(&self) -> &'a [u8]
+        ensures { result.now ≡ part 8 8 self.now.bytes.now }
+    {
+        &self.bytes[8..16]
+    }
 
-// The name that a rename gives the read.
-pub fn new_name(record: &[u8], fields: Fields) -> &[u8]
-    requires record_value { record_test «record».now ≡ Accepted }
-    requires fields_of { FieldsOf fields «record».now }
-    ensures { result.now ≡ new_name «record».now }
-{
-    let end = 56 + fields.new_length;
-    &record[56..end]
-}
+    // The name that the read must have.
+    pub fn old_name(&self) -> &'a [u8]
+        ensures { result.now ≡ old_name self.now.bytes.now }
+    {
+        let end = 16 + self.fields.old_length;
+        &self.bytes[16..end]
+    }
 
-// The same in its field, with the zeros after it.
-pub fn new_name_field(record: &[u8]) -> &[u8]
-    requires { length «record».now ≡ 96 }
-    ensures { result.now ≡ part 56 40 «record».now }
-{
-    &record[56..96]
+    // The name that a rename gives the read.
+    pub fn new_name(&self) -> &'a [u8]
+        ensures { result.now ≡ new_name self.now.bytes.now }
+    {
+        let end = 56 + self.fields.new_length;
+        &self.bytes[56..end]
+    }
+
+    // The same in its field, with the zeros after it.
+    pub fn new_name_field(&self) -> &'a [u8]
+        ensures { result.now ≡ part 56 40 self.now.bytes.now }
+    {
+        &self.bytes[56..96]
+    }
 }

@@ -1,4 +1,5 @@
-// For the crates above, which have measured the room that each of these fills: hence each `requires`.
+// For the crates above, which have measured the room that each of these fills: hence each `requires`. Each puts at a
+// place of the whole buffer, as the definitions' `put_at` does: a part of it would have to be set back at each call.
 ghost use Rattle.std.specs.Prelude.{ℕ, ◌≡◌, ◌+◌, ◌-◌, ◌*◌, ◌≤◌, ◌<◌, length, replicate};
 ghost use Rattle.octets.specs.Parts.{put_at, up8};
 ghost use Rattle.octets.specs.Numbers.{bytes_of, fields};
@@ -25,7 +26,8 @@ fn put_padding(buffer: &mut [u8], at: usize, used: usize)
     buffer[at + used..at + up8(used)].fill(0);
 }
 
-// Puts the `width` low bytes of `value` at `at`, the most significant first.
+// Puts the `width` low bytes of `value` at `at`, the most significant first. In `buffers` the width is a constant; here
+// it stands in a list.
 fn put_number(buffer: &mut [u8], at: usize, width: usize, value: usize)
     requires { (width ≤ 8) × (at + width ≤ length buffer.old) }
     ensures { buffer.new ≡ put_at at (bytes_of width value) buffer.old }

@@ -3,11 +3,13 @@
 #![tactic(auto)]
 
 ghost use Rattle.std.specs.Prelude.{◌≡◌, length};
+ghost use Rattle.answers.specs.Answer.{answer_of, when};
 ghost use Rattle.sff_format.specs.Writing.{bad_counts};
 ghost use Rattle.sff_sections.specs.Sections.{read_in};
 
 pub mod inner;
 
+use answers::{Cause, Refusal};
 use sff_format::Clips;
 
 // The most bases that a read can count, in four bytes.
@@ -33,13 +35,16 @@ pub struct NewHeader<'a> {
 
 impl NewRead<'_> {
     // The counts: they differ from F or from each other, or there are more bases than a read can count (30).
-    #[tactic(auto, unfolding(sff_format::specs::Writing::bad_counts))]
-    pub fn has_bad_counts(&self, flows: usize) -> bool
+    pub fn counts_test(&self, flows: usize) -> Result<(), Refusal>
         ensures { let read = read_in self.now in
-            result ≡ bad_counts flows (length read.values) (length read.increments) (length read.bases) (length read.qualities) }
+            answer_of result ≡ when (bad_counts flows (length read.values) (length read.increments) (length read.bases) (length read.qualities)) 30 0 }
     {
         let bases = self.bases.len();
-        ((self.values.len() != flows) | (self.increments.len() != bases))
+        if ((self.values.len() != flows) | (self.increments.len() != bases))
             | ((self.qualities.len() != bases) | (bases > MOST_BASES))
+        {
+            return Err(Refusal(Cause::Counts, 0));
+        }
+        Ok(())
     }
 }

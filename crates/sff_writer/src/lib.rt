@@ -57,9 +57,7 @@ fn given_test(characters: &[u8], read: &NewRead) -> Result<(), Refusal>
     requires { length characters.now < 65536 }
     ensures { answer_of result ≡ given_test characters.now (read_in read.now) }
 {
-    if read.has_bad_counts(characters.len()) {
-        return Err(Refusal(Cause::Counts, 0));
-    }
+    read.counts_test(characters.len())?;
     if read.name.len() > LONGEST_NAME {
         return Err(Refusal(Cause::SectionLength, 0));
     }
@@ -130,7 +128,8 @@ fn append_test(buffer: &[u8], file_length: usize, read: &NewRead) -> Result<(), 
 }
 
 // Puts a read behind the file that fills the first `file_length` bytes of the buffer, and counts it. Answers the file's
-// length afterwards; refused, file and buffer are as they were.
+// length afterwards; refused, file and buffer are as they were. File and room are one buffer, as the definition has
+// them: so the file's length stands beside it.
 pub fn append(buffer: &mut [u8], file_length: usize, read: &NewRead) -> Result<usize, Refusal>
     ensures { AppendLeaves buffer.old file_length (read_in read.now) (outcome_of file_length result) buffer.new }
 {

@@ -91,10 +91,10 @@ fn digit_byte(digit: usize) -> u8
     requires { digit < 10 }
     ensures { result ≡ 48 + digit }
 {
-    48 + (digit as u8)
+    b'0' + digit as u8
 }
 
-// How many digits `put_digits` puts.
+// How many digits `put_digits` puts. Apart from it, so that wrong programs can measure wrong what they put right.
 #[tactic(auto, using(crate::proofs::Decimal::counted))]
 fn count_digits(most: usize, n: usize) -> usize
     ensures { result ≡ length (decimal_of most n) }
@@ -122,11 +122,7 @@ pub fn number_length(n: usize) -> usize
 pub fn word_length(source: &[u8]) -> usize
     ensures { result ≡ length (or_dash source.now) }
 {
-    let n = source.len();
-    if n == 0 {
-        return 1;
-    }
-    n
+    source.len().max(1)
 }
 
 // A text that is measured before it is put.

@@ -14,7 +14,7 @@ use Rattle.filter_format.specs.Undo.{Filtered, filtered, undo}
 use Rattle.text.specs.Writing.{written_of}
 use Rattle.lines.specs.Lines.{refusal_line, too_long}
 use Rattle.lines.proofs.Answered.{is_long, not_long, answered-text, answered-refusal}
-use Rattle.unfilter_text.specs.Unfiltering.{text_of, unfilter_text}
+use Rattle.unfilter_text.specs.Unfiltering.{unfilter_text}
 
 -- xs was put at the front, and what stands behind it cleared
 pub cleared : (xs l : List ℕ) {l₁ l' : List ℕ} {n : ℕ} → length xs ≤ length l → l₁ ≡ put_at 0 xs l → n ≡ length xs

@@ -1,29 +1,50 @@
 -- Where the tests refuse, nothing is written; where they accept, the samples are whole and have room, and level 2's
--- differences of them are put, as many bytes as the source has.
+-- differences of them are put in units of the precision's width, as many bytes as the source has.
+use Rattle.std.proofs.Common.{ℕ, refl}
+use Rattle.filter_format.specs.Delta.{delta_bytes}
 use Rattle.filter_format.specs.Samples.{encode_samples}
 use Rattle.filter_format.proofs.Levels.{length-delta}
-use Rattle.filter_format.proofs.Results.{refused_answer, refused_out}
-use Rattle.scf_samples.proofs.Either.{judged, written_answer, written_out}
+use Rattle.filter_format.proofs.Results.{refused_out}
+use Rattle.filter_format.proofs.Calls.{handed_back}
+use Rattle.scf_samples.proofs.Either.{is_two, judged, written_answer, written_out}
 use Rattle.scf_samples.proofs.encode_samples.Goals as goal
 
-pub returns-in_default-clause-value : goal.returns-in_default-clause-value
+pub returns-in_err-samples_test-clause-value : goal.returns-in_err-samples_test-clause-value
 unfolding encode_samples
-returns-in_default-clause-value c = search refused_answer
+returns-in_err-samples_test-clause-value c = handed_back _ _ c.from_residual.ensures c.in_err-samples_test.ensures _
 
-pub returns-in_default-clause-out_after : goal.returns-in_default-clause-out_after
+pub returns-in_err-samples_test-clause-out_after : goal.returns-in_err-samples_test-clause-out_after
 unfolding encode_samples
-returns-in_default-clause-out_after c = search refused_out
+returns-in_err-samples_test-clause-out_after c = refused_out c.in_err-samples_test.ensures _ refl _
 
 pub put_delta-requires : goal.put_delta-requires
-put_delta-requires c = judged _ _ _ c.samples_test-answer.ensures c.in-Accepted.is
+put_delta-requires c = judged _ _ _ c.in_ok-samples_test.ensures c.if-precision-eq1.true
 
-pub returns-clause-value : goal.returns-clause-value
+pub put_delta-requires-else-precision-eq1 : goal.put_delta-requires-else-precision-eq1
+put_delta-requires-else-precision-eq1 c =
+    let k = c.in_ok-samples_test.ensures in
+    judged _ _ _ k (is_two _ _ _ k c.if-precision-eq1.false)
+
+pub returns-then-precision-eq1-clause-value : goal.returns-then-precision-eq1-clause-value
 unfolding encode_samples
-returns-clause-value c =
-    written_answer _ _ _ c.samples_test-answer.ensures c.in-Accepted.is _
+returns-then-precision-eq1-clause-value c =
+    written_answer _ _ _ c.in_ok-samples_test.ensures c.if-precision-eq1.true (λ (w : ℕ). delta_bytes w 2)
     (λ positive whole. length-delta _ positive _ whole 2)
 
-pub returns-clause-out_after : goal.returns-clause-out_after
+pub returns-then-precision-eq1-clause-out_after : goal.returns-then-precision-eq1-clause-out_after
 unfolding encode_samples
-returns-clause-out_after c =
-    written_out _ _ _ c.samples_test-answer.ensures c.in-Accepted.is _ _ c.put_delta.ensures
+returns-then-precision-eq1-clause-out_after c =
+    written_out _ _ _ c.in_ok-samples_test.ensures c.if-precision-eq1.true (λ (w : ℕ). delta_bytes w 2) _ c.put_delta.ensures
+
+pub returns-else-precision-eq1-clause-value : goal.returns-else-precision-eq1-clause-value
+unfolding encode_samples
+returns-else-precision-eq1-clause-value c =
+    let k = c.in_ok-samples_test.ensures in
+    written_answer _ _ _ k (is_two _ _ _ k c.if-precision-eq1.false) (λ (w : ℕ). delta_bytes w 2)
+    (λ positive whole. length-delta _ positive _ whole 2)
+
+pub returns-else-precision-eq1-clause-out_after : goal.returns-else-precision-eq1-clause-out_after
+unfolding encode_samples
+returns-else-precision-eq1-clause-out_after c =
+    let k = c.in_ok-samples_test.ensures in
+    written_out _ _ _ k (is_two _ _ _ k c.if-precision-eq1.false) (λ (w : ℕ). delta_bytes w 2) _ c.put_delta-else-precision-eq1.ensures

@@ -1,22 +1,34 @@
 -- 14, 20 and the file's refusal end the chain of tests; behind them the file is accepted, and the walk starts at its
 -- header.
-use mathlib.Core.Path.{sym, ◌∙◌}
-use Rattle.sff_corrector.proofs.Turns.{stopped, stop_14, stop_20, stop-file}
+use native.Mathlib.Omega.{arith}
+use Rattle.std.proofs.Common.{rules}
+use Rattle.octets.specs.Numbers.{Bytes}
+use Rattle.octets.proofs.AllBytes.{bytes_of_lem}
+use Rattle.answers.specs.declared.Cause.TheVariants.{FileLength}
+use Rattle.sff_corrector.proofs.Turns.{stopped, stopped_back, stop_14, stop_20, stop-file}
 use Rattle.sff_corrector.proofs.carry_first.Goals as goal
 
 pub returns-then-len-buffer : goal.returns-then-len-buffer
 returns-then-len-buffer c =
-    let r = stopped _ _ _ (stop_14 _ _ _ c.if-len-buffer.true) in
+    let r = stopped _ _ _ (FileLength, 0) (stop_14 _ _ _ c.if-len-buffer.true) in
     record { result_value = r.0; buffer_after = r.1.0; accepted_after = r.1.1 }
 
-pub returns-in-Refused : goal.returns-in-Refused
-returns-in-Refused c =
-    let r = stopped _ _ _ (stop_20 _ _ _ c.if-len-buffer.false c.record_test.ensures c.in-Refused.is) in
+pub returns-in_err-record_test : goal.returns-in_err-record_test
+returns-in_err-record_test c =
+    let t = stop_20 _ _ _ (omega arith) c.in_err-record_test.ensures in
+    let r = stopped_back _ _ _ _ _ c.from_residual.ensures t in
     record { result_value = r.0; buffer_after = r.1.0; accepted_after = r.1.1 }
 
-pub returns-in-Refused-file_test : goal.returns-in-Refused-file_test
-returns-in-Refused-file_test c =
-    let formed = sym c.record_test.ensures ∙ c.in_default.is in
-    let e = c.in-Refused-file_test.is in
-    let r = stopped _ _ _ (stop-file _ _ _ c.if-len-buffer.false formed c.file_test.ensures e) in
+pub returns-in_err-file_test : goal.returns-in_err-file_test
+returns-in_err-file_test c =
+    let t = stop-file _ _ _ (omega arith) c.in_ok-record_test.ensures c.in_err-file_test.ensures in
+    let r = stopped_back _ _ _ _ _ c.from_residual-in_err-file_test.ensures t in
     record { result_value = r.0; buffer_after = r.1.0; accepted_after = r.1.1 }
+
+pub carry_out-requires-clause-bytes : goal.carry_out-requires-clause-bytes
+carry_out-requires-clause-bytes c =
+    let z : Bytes c.args.record.now = search (bytes_of_lem, rules) in
+    rw c.new.ensures.bytes z
+
+pub returns : goal.returns
+returns c = rw c.new.ensures.bytes at c.carry_out.ensures

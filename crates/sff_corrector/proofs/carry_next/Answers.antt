@@ -1,11 +1,20 @@
--- The part of the list from `at` to `at` + 96 is the record. 20 is the one refusal before the rest, since the file
--- before it is accepted.
-use native.Mathlib.Nat.{add-sub_cancel_left}
-use Rattle.sff_corrector.proofs.Turns.{stopped, stop_20}
+-- 20 is the one refusal before the rest, since the file before it is accepted.
+use Rattle.std.proofs.Common.{rules}
+use Rattle.octets.specs.Numbers.{Bytes}
+use Rattle.octets.proofs.AllBytes.{bytes_of_lem}
+use Rattle.sff_corrector.proofs.Turns.{stopped_back, stop_20}
 use Rattle.sff_corrector.proofs.carry_next.Goals as goal
 
-pub returns-in-Refused : goal.returns-in-Refused
-returns-in-Refused c =
-    let e = rw add-sub_cancel_left at c.record_test.ensures in
-    let d = stopped _ _ _ (stop_20 _ _ _ c.requires.accepted_front.inside e c.in-Refused.is) in
-    record { result_value = d.0; buffer_after = d.1.0; accepted_after = d.1.1 }
+pub returns-in_err-record_test : goal.returns-in_err-record_test
+returns-in_err-record_test c =
+    let t = stop_20 _ _ _ c.requires.inside c.in_err-record_test.ensures in
+    let r = stopped_back _ _ _ _ _ c.from_residual.ensures t in
+    record { result_value = r.0; buffer_after = r.1.0; accepted_after = r.1.1 }
+
+pub carry_out-requires-clause-bytes : goal.carry_out-requires-clause-bytes
+carry_out-requires-clause-bytes c =
+    let z : Bytes c.args.record.now = search (bytes_of_lem, rules) in
+    rw c.new.ensures.bytes z
+
+pub returns : goal.returns
+returns c = rw c.new.ensures.bytes at c.carry_out.ensures

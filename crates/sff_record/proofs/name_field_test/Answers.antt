@@ -5,6 +5,10 @@ use Rattle.correction_format.specs.Record.{name_field_test}
 use Rattle.sff_record.proofs.Reasons.{part-tested, zeros-after}
 use Rattle.sff_record.proofs.name_field_test.Goals as goal
 
+pub returns : goal.returns
+unfolding name_field_test
+returns c = search (onward, part-tested, zeros-after)
+
 pub returns-then-n-lt1 : goal.returns-then-n-lt1
 unfolding name_field_test
 returns-then-n-lt1 c = search refusal
@@ -16,7 +20,3 @@ returns-then-n-gt40 c = search refusal
 pub returns-then-fails : goal.returns-then-fails
 unfolding name_field_test
 returns-then-fails c = search (refusal, part-tested)
-
-pub returns : goal.returns
-unfolding name_field_test
-returns c = search (onward, part-tested, zeros-after)

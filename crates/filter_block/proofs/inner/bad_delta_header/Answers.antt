@@ -1,7 +1,8 @@
 -- The level is tested, then the bytes behind it up to the data, as the definition does; the header is in the block, so
 -- that the level's byte is there.
+use Rattle.std.proofs.Common.{sym, ap, ◌∙◌}
 use native.Mathlib.Omega.{arith}
-use Rattle.filter_format.specs.Block.{bad_header}
+use Rattle.filter_format.specs.Block.{bad_level, bad_header}
 use Rattle.filter_block.proofs.Headers.{delta-start, level_in}
 use Rattle.filter_block.proofs.inner.bad_delta_header.Goals as goal
 
@@ -13,7 +14,14 @@ first_not-requires c =
     let h = c.header_length-start.ensures.0 in
     (delta-start c.args.width _ h, omega (arith, h, c.requires))
 
-pub returns : goal.returns
+pub returns-then-bad_level : goal.returns-then-bad_level
 unfolding bad_header
-returns c =
-    rw (c.bad_level.ensures, c.first_not.ensures.0, c.wide.ensures.0, c.header_length-start.ensures.0)
+returns-then-bad_level c =
+    let bad = ap bad_level (sym c.from.ensures) ∙ sym c.bad_level.ensures ∙ c.if-bad_level.true in
+    rw (c.if-bad_level.true, bad)
+
+pub returns-else-bad_level : goal.returns-else-bad_level
+unfolding bad_header
+returns-else-bad_level c =
+    let bad = ap bad_level (sym c.from.ensures) ∙ sym c.bad_level.ensures ∙ c.if-bad_level.false in
+    rw (bad, c.first_not.ensures.0, c.header_length-start.ensures.0)

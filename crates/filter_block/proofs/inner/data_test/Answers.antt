@@ -11,7 +11,7 @@ overflow_sub-block c = omega (arith, (told _ _ c.args.block.now c.in-Raw.is c.re
 
 pub narrow_test-requires : goal.narrow_test-requires
 unfolding header_length
-narrow_test-requires c = let k = told _ _ c.args.block.now c.in-Narrow.is c.requires in (k.0.0, k.1)
+narrow_test-requires c = let k = told _ _ c.args.block.now c.in-Narrow.is c.requires in (k.0.0.0, k.1)
 
 pub overflow_sub-block-in-Follow : goal.overflow_sub-block-in-Follow
 unfolding header_length

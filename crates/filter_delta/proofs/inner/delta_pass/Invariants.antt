@@ -3,8 +3,5 @@
 use Rattle.filter_delta.proofs.Pass.{Differencing}
 use Rattle.filter_delta.proofs.inner.delta_pass.Given as goal
 
-abbrev pub invariant-loop-left : goal.invariant-loop-left
-invariant-loop-left l = Differencing l.width l.p l.left l.at l.initial.bytes l.bytes
-
-abbrev pub decreases-loop-left : goal.decreases-loop-left
-decreases-loop-left l = l.left
+abbrev pub invariant-loop-i : goal.invariant-loop-i
+invariant-loop-i g l = let u = g.U.Unit in Differencing u.WIDTH (u.value l.previous) l.i l.i-end l.initial.bytes l.bytes

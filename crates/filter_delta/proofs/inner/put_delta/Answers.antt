@@ -1,12 +1,11 @@
--- After the copy the data stand at `at`, and that part is lent to `delta_levels`: when it is back, the data stand there
--- with all levels on, and the rest of the buffer is as it was.
-use Rattle.filter_delta.proofs.Transform.{put_on}
-use Rattle.filter_delta.proofs.LentPart.{Copied, given_back}
+use Rattle.filter_delta.proofs.Levels.{done, levels_start, levels_more, levels_put}
 use Rattle.filter_delta.proofs.inner.put_delta.Goals as goal
 
+pub make-init : goal.make-init
+make-init g c = levels_start (done g.U.Unit.WIDTH g.met.U.Unit.is_width.0) c.args.level c.requires.0 c.copy_from_slice.ensures.after (λ i. (c.type_inv.data i).fits)
+
+pub make-preserved : goal.make-preserved
+make-preserved g c = levels_more c.make.invariant c.make-test.true c.delta_pass.ensures (λ i. (c.type_inv.data i).fits)
+
 pub returns : goal.returns
-returns c =
-    let a = c.args in
-    let k : Copied a.width a.at a.source.now a.out.now c.copy.new.buffer
-    = record { whole = c.requires.1; room = c.requires.2; is = c.copy.ensures } in
-    given_back k (put_on a.width c.requires.0) a.level c.delta_levels.ensures
+returns g c = levels_put c.make.invariant c.make-test.false c.args.at c.args.out.now

@@ -1,12 +1,11 @@
--- After the copy the data stand at `at`, and that part is lent to `undelta_levels`: when it is back, the data stand
--- there with all levels off, and the rest of the buffer is as it was.
-use Rattle.filter_delta.proofs.Transform.{taken_off}
-use Rattle.filter_delta.proofs.LentPart.{Copied, given_back}
+use Rattle.filter_delta.proofs.Levels.{undone, levels_start, levels_more, levels_put}
 use Rattle.filter_delta.proofs.inner.put_undelta.Goals as goal
 
+pub undo-init : goal.undo-init
+undo-init g c = levels_start (undone g.U.Unit.WIDTH g.met.U.Unit.is_width.0) c.args.level c.requires.0 c.copy_from_slice.ensures.after (λ i. (c.type_inv.data i).fits)
+
+pub undo-preserved : goal.undo-preserved
+undo-preserved g c = levels_more c.undo.invariant c.undo-test.true c.undelta_pass.ensures.bytes_after (λ i. (c.type_inv.data i).fits)
+
 pub returns : goal.returns
-returns c =
-    let a = c.args in
-    let k : Copied a.width a.at a.source.now a.out.now c.copy.new.buffer
-    = record { whole = c.requires.1; room = c.requires.2; is = c.copy.ensures } in
-    given_back k (taken_off a.width c.requires.0) a.level c.undelta_levels.ensures
+returns g c = levels_put c.undo.invariant c.undo-test.false c.args.at c.args.out.now

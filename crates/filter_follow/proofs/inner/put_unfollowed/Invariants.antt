@@ -1,13 +1,9 @@
 -- The first byte is put as it is. Each turn puts one byte more, by the byte put before it, and the invariant says that
--- the first j bytes of the definition are put and p is the last of them.
-use Rattle.std.proofs.Common.{◌-◌, length}
+-- the first j + 1 bytes of the definition are put and the last byte of `seen` is remembered.
+use Rattle.std.proofs.Common.{◌+◌, ◌<◌}
 use Rattle.filter_format.specs.Follow.{unfollowed}
 use Rattle.filter_follow.proofs.Turns.{Turn}
 use Rattle.filter_follow.proofs.inner.put_unfollowed.Given as goal
 
 abbrev pub invariant-loop-j : goal.invariant-loop-j
-invariant-loop-j l =
-    Turn 0 l.follow (unfollowed l.follow l.source) l.source (unfollowed l.follow l.source) l.initial.out l.out l.p l.j
-
-abbrev pub decreases-loop-j : goal.decreases-loop-j
-decreases-loop-j l = length l.source - l.j
+invariant-loop-j l = (l.previous < 256) × Turn 0 l.follow (unfollowed l.follow l.source) l.source (unfollowed l.follow l.source) l.initial.out l.out l.previous (l.j + 1)

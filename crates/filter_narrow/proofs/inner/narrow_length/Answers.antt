@@ -6,11 +6,10 @@ use Rattle.filter_narrow.proofs.Units.{length_one, length_whole}
 use Rattle.filter_narrow.proofs.inner.narrow_length.Goals as goal
 
 pub returns-then-fits_one : goal.returns-then-fits_one
-returns-then-fits_one c =
-    let a = c.args in
-    (sym (length_one a.width a.unit c.fits_one.ensures c.if-fits_one.true), omega arith)
+returns-then-fits_one g c =
+    (sym (length_one g.U.Unit.WIDTH _ c.fits_one.ensures c.if-fits_one.true), omega arith)
 
 pub returns-else-fits_one : goal.returns-else-fits_one
-returns-else-fits_one c =
-    let a = c.args in
-    (sym (length_whole a.width a.unit c.fits_one.ensures c.if-fits_one.false), omega arith)
+returns-else-fits_one g c =
+    let n = length_whole g.U.Unit.WIDTH _ c.fits_one.ensures c.if-fits_one.false in
+    (omega (arith, n, c.WIDTH.ensures), omega (arith, c.WIDTH.ensures))

@@ -1,10 +1,11 @@
 -- Each turn adds one unit's length: the sum and the length of the units to come are together the length of all. A unit
 -- of two bytes or more takes at most one byte more, so that the sum stays within one and a half times the data.
+use mathlib.Core.Path.{◌≡◌}
+use Rattle.std.specs.Slice.Iter.{chunks_exact_rest, chunks_exact_size}
 use Rattle.filter_narrow.proofs.Units.{Measuring}
 use Rattle.filter_narrow.proofs.inner.narrowed_length.Given as goal
 
-abbrev pub invariant-loop-left : goal.invariant-loop-left
-invariant-loop-left l = Measuring l.width l.from l.left l.size l.source
-
-abbrev pub decreases-loop-left : goal.decreases-loop-left
-decreases-loop-left l = l.left
+abbrev pub invariant-loop-unit : goal.invariant-loop-unit
+invariant-loop-unit g l =
+    let w = g.U.Unit.WIDTH in
+    (chunks_exact_size l.unit-iterator ≡ w) × Measuring w l.size (chunks_exact_rest l.unit-iterator) l.source

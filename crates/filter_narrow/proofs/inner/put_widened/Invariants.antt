@@ -1,11 +1,10 @@
 -- Each turn puts the next unit whole: what is put and what is to come are together all the source's units.
-use Prim.Native.Nat.{◌-◌}
 use lib.ListN.{length}
 use Rattle.filter_narrow.proofs.Walk.{Widening}
 use Rattle.filter_narrow.proofs.inner.put_widened.Given as goal
 
-abbrev pub invariant-loop-from : goal.invariant-loop-from
-invariant-loop-from l = Widening l.width l.from l.to l.source l.initial.out l.out
+abbrev pub invariant-loop-byte : goal.invariant-loop-byte
+invariant-loop-byte g l = Widening g.U.Unit.WIDTH l.to l.rest l.source l.initial.out l.out
 
-abbrev pub decreases-loop-from : goal.decreases-loop-from
-decreases-loop-from l = length l.source - l.from
+abbrev pub decreases-loop-byte : goal.decreases-loop-byte
+decreases-loop-byte g l = length l.rest

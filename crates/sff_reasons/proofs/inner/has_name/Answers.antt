@@ -1,6 +1,8 @@
--- Names of different lengths differ; those of one length are compared byte by byte.
-use Rattle.sff_reasons.proofs.Told.{names_differ}
+-- The bytes after the read's header section are its name, and `==` tells whether they are the same.
+use mathlib.Core.Path.{sym, ◌∙◌}
+use native.Mathlib.Nat.{add-sub_cancel_left}
+use Rattle.octets.proofs.Same.{same_pointwise}
 use Rattle.sff_reasons.proofs.inner.has_name.Goals as goal
 
-pub returns-then-name-get16 : goal.returns-then-name-get16
-returns-then-name-get16 c = names_differ _ _ _ _ c.get16.ensures.0 c.requires c.if-name-get16.true
+pub returns : goal.returns
+returns c = rw (add-sub_cancel_left, c.get16.ensures.0) at c.eq.ensures ∙ sym (same_pointwise _ _)

@@ -23,6 +23,7 @@ use sff_file::file_test;
 use sff_find::inner::{Mark, find, find_on};
 use sff_reasons::inner::{position_above, reason};
 use sff_record::inner::Record;
+use sff_record::record_test;
 
 // What a record that was carried out leaves: the file's length, and the place of the read that it was for.
 #[derive(Clone, Copy)]
@@ -80,9 +81,9 @@ fn carry_first(buffer: &mut [u8], len: usize, record: &[u8]) -> Result<CarriedOu
     if len > buffer.len() {
         return Err(Refusal(Cause::FileLength, 0));
     }
-    let formed = Record::of(record)?;
+    record_test(record)?;
     file_test(&buffer[..len])?;
-    carry_out(buffer, len, &formed, None)
+    carry_out(buffer, len, &Record::new(record), None)
 }
 
 // A further record of a list: the one before it has left an accepted file.
@@ -97,8 +98,8 @@ fn carry_next(
     ensures buffer_after { buffer.new ≡ correct_buffer buffer.old len «record».now }
     ensures accepted_after { AcceptedAfter buffer.new result }
 {
-    let formed = Record::of(record)?;
-    carry_out(buffer, len, &formed, Some(from))
+    record_test(record)?;
+    carry_out(buffer, len, &Record::new(record), Some(from))
 }
 
 // The n records of a list from the second on, where the first left `first`.

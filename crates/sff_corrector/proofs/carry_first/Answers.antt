@@ -1,5 +1,6 @@
 -- 14, 20 and the file's refusal end the chain of tests; behind them the file is accepted, and the walk starts at its
 -- header.
+use native.Mathlib.Omega.{arith}
 use Rattle.std.proofs.Common.{rules}
 use Rattle.octets.specs.Numbers.{Bytes}
 use Rattle.octets.proofs.AllBytes.{bytes_of_lem}
@@ -12,22 +13,22 @@ returns-then-len-buffer c =
     let r = stopped _ _ _ (FileLength, 0) (stop_14 _ _ _ c.if-len-buffer.true) in
     record { result_value = r.0; buffer_after = r.1.0; accepted_after = r.1.1 }
 
-pub returns-in_err-formed : goal.returns-in_err-formed
-returns-in_err-formed c =
-    let t = stop_20 _ _ _ c.if-len-buffer.false c.in_err-formed.ensures.refusal in
+pub returns-in_err-record_test : goal.returns-in_err-record_test
+returns-in_err-record_test c =
+    let t = stop_20 _ _ _ (omega arith) c.in_err-record_test.ensures in
     let r = stopped_back _ _ _ _ _ c.from_residual.ensures t in
     record { result_value = r.0; buffer_after = r.1.0; accepted_after = r.1.1 }
 
 pub returns-in_err-file_test : goal.returns-in_err-file_test
 returns-in_err-file_test c =
-    let t = stop-file _ _ _ c.if-len-buffer.false c.in_ok-formed.ensures.refusal c.in_err-file_test.ensures in
+    let t = stop-file _ _ _ (omega arith) c.in_ok-record_test.ensures c.in_err-file_test.ensures in
     let r = stopped_back _ _ _ _ _ c.from_residual-in_err-file_test.ensures t in
     record { result_value = r.0; buffer_after = r.1.0; accepted_after = r.1.1 }
 
 pub carry_out-requires-clause-bytes : goal.carry_out-requires-clause-bytes
 carry_out-requires-clause-bytes c =
     let z : Bytes c.args.record.now = search (bytes_of_lem, rules) in
-    rw c.in_ok-formed.ensures.bytes z
+    rw c.new.ensures.bytes z
 
 pub returns : goal.returns
-returns c = rw c.in_ok-formed.ensures.bytes at c.carry_out.ensures
+returns c = rw c.new.ensures.bytes at c.carry_out.ensures

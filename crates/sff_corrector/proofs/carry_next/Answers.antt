@@ -5,16 +5,16 @@ use Rattle.octets.proofs.AllBytes.{bytes_of_lem}
 use Rattle.sff_corrector.proofs.Turns.{stopped_back, stop_20}
 use Rattle.sff_corrector.proofs.carry_next.Goals as goal
 
-pub returns-in_err-formed : goal.returns-in_err-formed
-returns-in_err-formed c =
-    let t = stop_20 _ _ _ c.requires.inside c.in_err-formed.ensures.refusal in
+pub returns-in_err-record_test : goal.returns-in_err-record_test
+returns-in_err-record_test c =
+    let t = stop_20 _ _ _ c.requires.inside c.in_err-record_test.ensures in
     let r = stopped_back _ _ _ _ _ c.from_residual.ensures t in
     record { result_value = r.0; buffer_after = r.1.0; accepted_after = r.1.1 }
 
 pub carry_out-requires-clause-bytes : goal.carry_out-requires-clause-bytes
 carry_out-requires-clause-bytes c =
     let z : Bytes c.args.record.now = search (bytes_of_lem, rules) in
-    rw c.in_ok-formed.ensures.bytes z
+    rw c.new.ensures.bytes z
 
 pub returns : goal.returns
-returns c = rw c.in_ok-formed.ensures.bytes at c.carry_out.ensures
+returns c = rw c.new.ensures.bytes at c.carry_out.ensures

@@ -5,6 +5,8 @@ ghost use Rattle.filter_format.specs.Delta.{delta_bytes, undelta_bytes, OneLevel
 
 use filter_units::inner::Unit;
 
+// Both passes go by an index: of `chunks_exact_mut` std does not say what the slice ends as, so no proof closes.
+
 // Undoes one level: each unit becomes the sum of it and of those before.
 fn undelta_pass<U: Unit>(bytes: &mut [u8])
     requires { length bytes.old % U.WIDTH ≡ 0 }

@@ -95,7 +95,8 @@ fn result_there(here: &mut [u8], there: &mut [u8], n: usize) -> Result<usize, Re
 }
 
 // Undoes the block in the first `len` bytes of `here`, by its format. `is_first` says whether `here` is the caller's
-// first buffer.
+// first buffer. The two buffers stay parameters: a struct of them would be made anew at each layer, where they change
+// places, which is no plainer.
 #[cycle(choose_layer)]
 pub(crate) fn choose(
     here: &mut [u8],

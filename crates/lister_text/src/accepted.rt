@@ -12,7 +12,7 @@ use sff_clips::{first_base, last_base};
 use sff_file::inner::first_boundary;
 use sff_find::inner::next_read;
 use sff_format::ReadView;
-use sff_header::HeadedFile;
+use sff_header::inner::HeadedFile;
 use sff_view::{insert, name};
 use text::inner::{Text, TextWriter};
 

@@ -8,7 +8,8 @@ ghost use Rattle.octets.specs.Scans.{passes, fails};
 
 pub mod inner;
 
-// What the bytes of a stretch are tested for.
+// What the bytes of a stretch are tested for. An enum and no closure: the promises of the scans say `passes test`, which
+// gives each case the paper's words.
 #[derive(Clone, Copy)]
 pub enum ByteTest {
     FlowCharacter,

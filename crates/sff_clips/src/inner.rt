@@ -12,7 +12,7 @@ use octets::greatest;
 use sff_format::{ReadView, Span};
 use sff_walk::BasePosition;
 
-// What a left and a right clip of a read may hold at most.
+// What a left and a right clip of a read may hold at most: two rules, which happen to be the same.
 #[tactic(auto, unfolding(sff_format::specs::Rules::left_limit))]
 fn left_limit(bases: usize) -> BasePosition
     requires { bases < 4294967296 }

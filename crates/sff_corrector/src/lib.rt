@@ -110,6 +110,7 @@ fn run(buffer: &mut [u8], list: &[u8], n: usize, first: CarriedOut) -> ListOutco
     ensures buffer_after { buffer.new ≡ (turns (n - 1) 1 buffer.old first.length list.now).buffer }
 {
     let mut left = first;
+    // Not over chunks of the list: the answer says how many were carried out.
     for count in 1..n {
         let at = 96 * count;
         let end = at + 96;

@@ -9,7 +9,7 @@ ghost use Rattle.sff_format.specs.Walk.{first_boundary, read_start, next_boundar
 
 use answers::{Cause, Refusal};
 use sff_format::{Boundary, ReadView};
-use sff_header::HeadedFile;
+use sff_header::inner::HeadedFile;
 use sff_read::inner::{read_end, read_view};
 
 // Whether an index is declared at a boundary and not yet passed.

@@ -11,7 +11,8 @@ pub mod inner;
 
 use crate::inner::{end_test, first_boundary, index_test, next_boundary, past_index};
 use answers::Refusal;
-use sff_header::{HeadedFile, header_test};
+use sff_header::header_test;
+use sff_header::inner::HeadedFile;
 use sff_read::inner::read_test;
 
 // What the boundaries ask from the header's end on, with as many reads as the header states.

@@ -11,7 +11,7 @@ ghost use Rattle.sff_find.specs.Mark.{Marked};
 
 use sff_file::inner::{boundary_at, first_boundary, next_boundary, past_index, view_at};
 use sff_format::{Boundary, ReadView};
-use sff_header::HeadedFile;
+use sff_header::inner::HeadedFile;
 
 // From a boundary with some reads behind it to the start of the read at a position.
 fn seek(file: &HeadedFile, from: Boundary, behind: usize, position: usize) -> usize

@@ -10,7 +10,7 @@ pub mod inner;
 
 use answers::{Cause, Refusal};
 use sff_file::file_test;
-use sff_header::HeadedFile;
+use sff_header::inner::HeadedFile;
 
 // The file's own refusal, then 21 where it has no read at the position.
 pub fn position_test(file: &[u8], position: usize) -> Result<(), Refusal>

@@ -9,10 +9,9 @@ ghost use Rattle.answers.specs.Answer.{answer_of};
 ghost use Rattle.sff_format.specs.Rules.{bad_index_length, bad_index};
 ghost use Rattle.sff_format.specs.HeaderTest.{header_length, characters_end, fixed_test, characters_test, header_test, file_flow_characters, file_key};
 
-mod headed;
+pub mod inner;
 
-pub use crate::headed::HeadedFile;
-use crate::headed::is_declared;
+use crate::inner::{HeadedFile, is_declared};
 use answers::{Cause, Refusal};
 use octets::ByteTest;
 use octets::inner::{first_not, get32, up8};

@@ -11,7 +11,8 @@ ghost use Rattle.sff_reader.specs.Forms.{state_of, boundary_of, found_of, step_o
 use answers::{Cause, Refusal};
 use sff_file::inner::{end_test, index_test, next_boundary, past_index, view_at};
 use sff_format::{Boundary, ReadView};
-use sff_header::{HeadedFile, header_test};
+use sff_header::header_test;
+use sff_header::inner::HeadedFile;
 use sff_read::inner::read_test;
 
 // A byte place, the reads passed, and whether the index is passed. A caller may put in any values.

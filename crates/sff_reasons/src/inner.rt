@@ -16,7 +16,7 @@ use correction_format::Kind;
 use octets::inner::{get16, get32, up8};
 use sff_clips::inner::clip_test;
 use sff_file::inner::{first_boundary, next_boundary, past_index};
-use sff_header::HeadedFile;
+use sff_header::inner::HeadedFile;
 use sff_record::inner::Record;
 use sff_walk::BasePosition;
 

@@ -41,7 +41,7 @@ fn name_field_test(record: &[u8], at: usize, n: usize) -> Result<(), Refusal>
     unused_test(record, end, at + 40 - end)
 }
 
-// New clips, in kind 1 alone.
+// New clips, in kind 1 alone. These tests compare the byte itself, as their definitions do: it is not a kind yet.
 fn new_clips_test(record: &[u8]) -> Result<(), Refusal>
     requires { length «record».now ≡ 96 }
     ensures { answer_of result ≡ new_clips_test «record».now }

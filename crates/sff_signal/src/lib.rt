@@ -13,7 +13,7 @@ use crate::inner::values_summary;
 use answers::{Cause, Refusal};
 use sff_find::inner::view_of;
 use sff_find::position_test;
-use sff_header::HeadedFile;
+use sff_header::inner::HeadedFile;
 
 // The strongest and the weakest signal of a read's flows, and the mean.
 #[derive(Clone, Copy)]

@@ -15,6 +15,7 @@ use octets::whole_part;
 use sff_clips::{first_base, last_base};
 use sff_format::{ReadView, Span};
 
+// One part of a view. The calls that hand them out stay functions of their own: their names are public.
 fn bytes_in(file: &[u8], x: Span) -> &[u8]
     ensures { result.now ≡ bytes_in file.now x }
 {

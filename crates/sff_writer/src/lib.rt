@@ -16,7 +16,7 @@ use octets::{ByteTest, fails};
 use sff_clips::inner::clip_test;
 use sff_file::file_test;
 use sff_format::Clips;
-use sff_header::HeadedFile;
+use sff_header::inner::HeadedFile;
 use sff_sections::{NewHeader, NewRead};
 use sff_walk::BasePosition;
 use sff_walk::inner::bases_test;

@@ -1,4 +1,5 @@
-// A file with its header's fields, each read once. Apart from the tests, whose words speak of it.
+// A file with its header's fields, each read once, for this crate and those above it, which have seen that the file has
+// the header's 31 bytes: so `new` may ask for them.
 ghost use Rattle.std.specs.Prelude.{◌≡◌, ◌+◌, ◌≤◌, ◌<◌, length};
 ghost use Rattle.octets.specs.Parts.{whole_part};
 ghost use Rattle.sff_format.specs.Rules.{declared, index_size};

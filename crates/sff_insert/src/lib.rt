@@ -22,7 +22,7 @@ pub struct InsertEnds {
 }
 
 // What the read at a position says, or the position's refusal.
-fn view_at(file: &[u8], position: usize) -> Result<ReadView, Refusal>
+fn tested_view(file: &[u8], position: usize) -> Result<ReadView, Refusal>
     ensures test { answer_of result ≡ position_test file.now position }
     ensures view { IfOk result (λ view. view ≡ view_of file.now position) }
 {
@@ -34,7 +34,7 @@ fn view_at(file: &[u8], position: usize) -> Result<ReadView, Refusal>
 pub fn insert(file: &[u8], position: usize) -> &[u8]
     ensures { result.now ≡ file_insert file.now position }
 {
-    let Ok(view) = view_at(file, position) else {
+    let Ok(view) = tested_view(file, position) else {
         return &file[..0];
     };
     sff_view::insert(view, file)
@@ -44,7 +44,7 @@ pub fn insert(file: &[u8], position: usize) -> &[u8]
 pub fn insert_ends(file: &[u8], position: usize) -> InsertEnds
     ensures { (result.first.0 ≡ file_first file.now position) × (result.last.0 ≡ file_last file.now position) }
 {
-    let Ok(view) = view_at(file, position) else {
+    let Ok(view) = tested_view(file, position) else {
         return InsertEnds {
             first: BasePosition(1),
             last: BasePosition(0),

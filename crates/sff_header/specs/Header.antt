@@ -1,12 +1,11 @@
 -- The header's fields as the code passes them on. Assumes nothing: these are definitions.
-use Rattle.std.specs.Prelude.{ℕ, ◌≡◌, ◌≤◌, List, length}
+use Rattle.std.specs.Prelude.{◌≡◌}
 use Rattle.sff_format.specs.HeaderTest.{index_offset, index_length, read_count, header_length, key_length, flows}
 use Rattle.sff_header.specs.declared.inner.HeadedFile.TheInside.{Inside}
 
 -- "index offset at 8 (8 bytes), index length at 16 (4), reads at 20 (4), header length at 24 (2), key length K at 26
 -- (2), flows F at 28 (2)": the numbers beside a file's bytes are those that stand there
 pub record FieldsRead (file : Inside) : Type 0 where
-  pub long : 31 ≤ length file.bytes.now
   pub index_offset_is : file.index_offset ≡ index_offset file.bytes.now
   pub index_length_is : file.index_length ≡ index_length file.bytes.now
   pub reads_is : file.reads ≡ read_count file.bytes.now

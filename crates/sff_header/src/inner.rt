@@ -9,8 +9,8 @@ use octets::inner::{get16, get32, get64};
 use octets::whole_part;
 use std::marker::Model;
 
-// A file that has the header's 31 bytes, and the fields of its header that differ from file to file, each in the width
-// that it has there. A contract sees the file's bytes alone.
+// A file, and the fields of its header that differ from file to file, each in the width that it has there. A contract
+// sees the file's bytes alone.
 #[derive(Drop)]
 pub struct HeadedFile<'a> {
     bytes: &'a [u8],
@@ -50,8 +50,7 @@ impl<'a> HeadedFile<'a> {
     }
 
     pub fn bytes(&self) -> &'a [u8]
-        ensures value { result.now ≡ self.now }
-        ensures long { 31 ≤ length result.now }
+        ensures { result.now ≡ self.now }
     {
         self.bytes
     }

@@ -34,6 +34,7 @@ fn bad_index(offset: usize, index_length: usize) -> bool
 // The fields that are the same in every file, and the header length: magic (2), version (3), format code (4), length
 // (5).
 fn fixed_test(file: &HeadedFile) -> Result<(), Refusal>
+    requires { 31 ≤ length file.now }
     ensures { answer_of result ≡ fixed_test file.now }
 {
     let bytes = file.bytes();

@@ -13,7 +13,7 @@ pub returns-in_err-read_test : goal.returns-in_err-read_test
 returns-in_err-read_test c =
     let one : c.reads-reads.result - c.loop-passed._passed ≡ suc (c.reads-reads.result - (c.loop-passed._passed + 1)) = omega arith in
     stop_read c.loop-passed.invariant c.in_ok-index_test.ensures c.past_index-start.ensures one
-    (rw (c.flows.ensures.0, c.bytes.ensures.value) at c.in_err-read_test.ensures)
+    (rw (c.flows.ensures.0, c.bytes.ensures) at c.in_err-read_test.ensures)
     (returned _ _ c.from_residual-in_err-read_test.ensures)
 
 pub loop-passed-init : goal.loop-passed-init
@@ -23,7 +23,7 @@ pub loop-passed-preserved : goal.loop-passed-preserved
 loop-passed-preserved c =
     let one : c.reads-reads.result - c.loop-passed._passed ≡ suc (c.reads-reads.result - (c.loop-passed._passed + 1)) = omega arith in
     sections_read c.loop-passed.invariant c.in_ok-index_test.ensures c.past_index-start.ensures one
-    (rw (c.flows.ensures.0, c.bytes.ensures.value) at c.in_ok-read_test.ensures)
+    (rw (c.flows.ensures.0, c.bytes.ensures) at c.in_ok-read_test.ensures)
     c.next_boundary-at.ensures
 
 pub returns : goal.returns
@@ -34,11 +34,11 @@ returns-in_err-index_test-2 c = search (boundaries, c.in_err-index_test-2.ensure
 
 pub read_test-requires : goal.read_test-requires
 read_test-requires c =
-    rw c.bytes.ensures.value (
+    rw c.bytes.ensures (
       past_inside c.loop-passed.invariant c.in_ok-index_test.ensures c.past_index-start.ensures,
       c.flows.ensures.1,
       rw c.flows.ensures.0 (sections_characters c.loop-passed.invariant),
     )
 
 pub next_boundary-at-requires : goal.next_boundary-at-requires
-next_boundary-at-requires c = read_begins _ _ _ (rw c.bytes.ensures.value at c.in_ok-read_test.ensures)
+next_boundary-at-requires c = read_begins _ _ _ (rw c.bytes.ensures at c.in_ok-read_test.ensures)

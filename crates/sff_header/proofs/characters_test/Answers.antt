@@ -6,21 +6,21 @@ use Rattle.sff_header.proofs.characters_test.Goals as goal
 
 pub returns-then-other-padding : goal.returns-then-other-padding
 unfolding characters_test
-returns-then-other-padding c = rw (← c.characters_end-padding.ensures.0, ← c.bytes-bytes.ensures.value) (search refusal)
+returns-then-other-padding c = rw (← c.characters_end-padding.ensures.0, ← c.bytes-bytes.ensures) (search refusal)
 
 pub returns-then-other-end : goal.returns-then-other-end
 unfolding characters_test
 returns-then-other-end c =
-    rw (← c.characters_end-padding.ensures.0, ← c.length-end.ensures.0, ← c.bytes-bytes.ensures.value) (search refusal)
+    rw (← c.characters_end-padding.ensures.0, ← c.length-end.ensures.0, ← c.bytes-bytes.ensures) (search refusal)
 
 pub returns-then-bad_index : goal.returns-then-bad_index
 unfolding characters_test
 returns-then-bad_index c =
-    rw (← c.characters_end-padding.ensures.0, ← c.length-end.ensures.0, ← c.index_offset.ensures, ← c.index_length.ensures.0, ← c.bytes-bytes.ensures.value)
+    rw (← c.characters_end-padding.ensures.0, ← c.length-end.ensures.0, ← c.index_offset.ensures, ← c.index_length.ensures.0, ← c.bytes-bytes.ensures)
     (search refusal)
 
 pub returns : goal.returns
 unfolding characters_test
 returns c =
-    rw (← c.characters_end-padding.ensures.0, ← c.length-end.ensures.0, ← c.index_offset.ensures, ← c.index_length.ensures.0, ← c.bytes-bytes.ensures.value)
+    rw (← c.characters_end-padding.ensures.0, ← c.length-end.ensures.0, ← c.index_offset.ensures, ← c.index_length.ensures.0, ← c.bytes-bytes.ensures)
     (search onward)

@@ -6,7 +6,7 @@ use Rattle.sff_reader.proofs.read_or_none.Goals as goal
 
 pub read_test-requires : goal.read_test-requires
 read_test-requires c =
-    rw c.bytes.ensures.value (
+    rw c.bytes.ensures (
       c.requires.place_in_bounds,
       c.flows.ensures.1,
       rw c.flows.ensures.0 (characters_fit _ c.requires.file_value),
@@ -15,7 +15,7 @@ read_test-requires c =
 pub returns-then-reads : goal.returns-then-reads
 returns-then-reads c =
     read_left _ _ _ _ c.reads.ensures.0 c.if-reads.true
-    (rw (c.flows.ensures.0, c.bytes.ensures.value) at c.read_test.ensures)
+    (rw (c.flows.ensures.0, c.bytes.ensures) at c.read_test.ensures)
 
 pub returns-in_err-end_test : goal.returns-in_err-end_test
 returns-in_err-end_test c =

@@ -10,8 +10,8 @@ returns-then-has_index-at c = search refusal
 
 pub returns-then-at-bytes : goal.returns-then-at-bytes
 unfolding end_test
-returns-then-at-bytes c = let inside = rw c.bytes.ensures.value at c.if-at-bytes.true in search refusal
+returns-then-at-bytes c = let inside = rw c.bytes.ensures at c.if-at-bytes.true in search refusal
 
 pub returns : goal.returns
 unfolding end_test
-returns c = let past = rw c.bytes.ensures.value at c.if-at-bytes.false in search onward
+returns c = let past = rw c.bytes.ensures at c.if-at-bytes.false in search onward

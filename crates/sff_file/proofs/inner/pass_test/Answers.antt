@@ -5,8 +5,8 @@ use Rattle.sff_file.proofs.inner.pass_test.Goals as goal
 
 pub returns-then-bytes-place : goal.returns-then-bytes-place
 unfolding pass_test
-returns-then-bytes-place c = rw (← c.index_size.ensures.value, ← c.bytes.ensures.value) (search refusal)
+returns-then-bytes-place c = rw (← c.index_size.ensures.value, ← c.bytes.ensures) (search refusal)
 
 pub returns : goal.returns
 unfolding pass_test
-returns c = rw (← c.index_size.ensures.value, ← c.bytes.ensures.value) (search onward)
+returns c = rw (← c.index_size.ensures.value, ← c.bytes.ensures) (search onward)

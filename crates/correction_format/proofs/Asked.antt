@@ -96,5 +96,8 @@ module _ (x : Fields) (r : List ℕ) (o : FieldsOf x r) where
 
 -- a record's fields with its own position ask for what it says
 module _ (x : Fields) (r : List ℕ) (e : x ≡ fields_at (position r) r) where
+  pub fields_of_record : FieldsOf x r
+  fields_of_record = rw e
+
   pub asked_of_record : asked x r ≡ parse_record r
   asked_of_record = λ j. at_position (e j).position (parse_record r)

@@ -55,6 +55,11 @@ pub record SectionsInvariant (b : List ℕ) (whole : Answer) (n : ℕ) (at : Bou
   pub fits : at.place ≤ length b
   pub is : whole ≡ boundary_test b n at.place at.passed
 
+-- at any place in the file
+pub sections_start : {b : List ℕ} → header_test b ≡ Accepted → (n : ℕ) (at : Boundary) → at.place ≤ length b
+    → SectionsInvariant b (boundary_test b n at.place at.passed) n at
+sections_start e n at l = record { head = e; fits = l; is = refl }
+
 pub sections_first : {b : List ℕ} → header_test b ≡ Accepted → {at : Boundary} → at ≡ first_boundary b
     → {n : ℕ} → n ≡ read_count b → SectionsInvariant b (boundary_test b (read_count b) (header_length b) false) n at
 sections_first {b} e i l = rw (i, l) (record { head = e; fits = header_fits b e; is = refl })

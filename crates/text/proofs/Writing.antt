@@ -32,6 +32,14 @@ module _ (xs ys : List ℕ) {w : TextWriter} (r : HasRoom (xs ++ ys) w) {w' : Te
     same_buffer = q.same_buffer ∙ p.same_buffer;
   }
 
+-- a buffer into which a piece is put keeps its length
+pub puts_length : (xs : List ℕ) {w w' : TextWriter} → HasRoom xs w → Puts xs w w' → length w'.out.now ≡ length w.out.now
+puts_length xs {w} r p = rw p.out (length_put w.at xs w.out.now r.fits)
+
+-- room for two pieces, from their lengths
+pub room_both : (xs ys : List ℕ) {w : TextWriter} → w.at + (length xs + length ys) ≤ length w.out.now → HasRoom (xs ++ ys) w
+room_both xs ys h = let e = length-append xs ys in record { fits = omega (arith, e, h) }
+
 -- what `search` needs for a text of pieces
 pub ruleset pieces = (room_first, room_then, puts_then, rules)
 

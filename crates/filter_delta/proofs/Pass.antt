@@ -1,12 +1,15 @@
 -- A pass along the units of a slice, in place: what is made, and what is to come, are the goal. One turn for every
--- scan. Assumes nothing.
-use Rattle.std.proofs.Common.{◌≡◌, ℕ, zero, suc, ◌+◌, ◌-◌, ◌*◌, ◌/◌, ◌%◌, ◌<◌, ◌≤◌, List, ◌++◌, length, take, sym, refl, ◌∙◌, append_assoc, append-nil, arith, take_all}
+-- scan. The last three laws are for passes of other crates that add and subtract at 32 bits and put the low bytes, as
+-- those along the columns of SCF chromatograms will (docs/CONTINUATION.md): of these the result is the scan's. Assumes
+-- nothing.
+use Rattle.std.proofs.Common.{◌≡◌, ℕ, zero, suc, ◌+◌, ◌-◌, ◌*◌, ◌/◌, ◌%◌, ◌^◌, ◌<◌, ◌≤◌, List, ◌++◌, length, take, sym, refl, ap, ◌∙◌, append_assoc, append-nil, mod-lt, mod-eq_of_lt, arith, take_all}
 use Rattle.std.proofs.Math.Nat.{mul-le-mul_left, zero-mul, sub-zero}
+use native.Mathlib.Nat.{mod-add-mod, add-mod-mod, add-mod_right, mod-mod_of_dvd, dvd_of_mod-eq-zero}
 use Rattle.octets.specs.Parts.{put_at}
 use Rattle.octets.specs.Numbers.{number, bytes_of, unit_bytes, units_at}
 use Rattle.octets.proofs.Lists.{length_put, take_put, part-after}
 use Rattle.octets.proofs.Digits.{length-bytes_of}
-use Rattle.filter_format.specs.Units.{range}
+use Rattle.filter_format.specs.Units.{IsWidth, range}
 use Rattle.filter_format.specs.Delta.{scan, difference, sum, latest, undeltas, deltas, undelta_bytes, delta_bytes}
 use Rattle.filter_format.proofs.Wholes.{units_in}
 
@@ -75,3 +78,24 @@ module _ (w p n : ℕ) (s : List ℕ) (whole : length s % w ≡ 0) (nothing : p 
   pub differencing_start : Differencing w p 0 n s s
   unfolding delta_bytes deltas
   differencing_start = record { whole = in_units; within = omega arith; made = rw (nothing, count, zero-mul w, sub-zero (length s / w)) }
+
+-- the ranges divide that of 32 bits
+pub divides : (w : ℕ) → IsWidth w → 2 ^ 32 % range w ≡ 0
+divides zero h = absurd (omega arith)
+divides (suc zero) h = refl
+divides (suc (suc zero)) h = refl
+divides (suc (suc (suc zero))) h = absurd (h.2 refl)
+divides (suc (suc (suc (suc zero)))) h = refl
+divides (suc (suc (suc (suc (suc w))))) h = absurd (omega arith)
+
+-- sums and differences at 32 bits, modulo a range m
+pub sum_seen : (m p x v : ℕ) → 2 ^ 32 % m ≡ 0 → v ≡ (p + x) % 2 ^ 32 → v % m ≡ sum m (p % m) x
+sum_seen m p x v d e = rw e (mod-mod_of_dvd m (p + x) (dvd_of_mod-eq-zero m d) ∙ sym (mod-add-mod p m x))
+
+pub difference_seen : (m p x v : ℕ) → 0 < m → 2 ^ 32 % m ≡ 0 → x < m → (v + p) % 2 ^ 32 ≡ x → v % m ≡ difference m (p % m) x
+difference_seen m p x v positive d hx e =
+    let q : ℕ = p % m in
+    let hq : q < m = mod-lt p positive in
+    let k : (v + p) % m ≡ x = sym (mod-mod_of_dvd m (v + p) (dvd_of_mod-eq-zero m d)) ∙ ap (λ (n : ℕ). n % m) e ∙ mod-eq_of_lt hx in
+    let k' : (v + q) % m ≡ x = add-mod-mod v p m ∙ k in
+    sym (ap (λ (n : ℕ). (n + (m - q)) % m) (sym k') ∙ mod-add-mod (v + q) m (m - q) ∙ ap (λ (n : ℕ). n % m) (omega arith) ∙ add-mod_right v m)

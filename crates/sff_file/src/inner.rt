@@ -3,25 +3,31 @@
 ghost use Rattle.std.specs.Prelude.{◌≡◌, ◌+◌, ◌≤◌, length};
 ghost use Rattle.answers.specs.Answer.{answer_of};
 ghost use Rattle.sff_format.specs.HeaderTest.{flows};
-ghost use Rattle.sff_format.specs.FileTest.{index_here, pass_test, index_test, end_test};
+ghost use Rattle.sff_format.specs.FileTest.{index_due, index_here, pass_test, index_test, end_test};
 ghost use Rattle.sff_format.specs.View.{view_at};
 ghost use Rattle.sff_format.specs.Walk.{first_boundary, read_start, next_boundary, boundary_at};
 
 use answers::{Cause, Refusal};
 use sff_format::{Boundary, ReadView};
-use sff_header::inner::HeadedFile;
+use sff_header::inner::{HeadedFile, is_declared};
 use sff_read::inner::{read_end, read_view};
 
-// Whether an index is declared at a boundary and not yet passed.
-#[tactic(auto, unfolding(sff_format::specs::FileTest::index_due))]
-fn index_due(file: &HeadedFile, at: Boundary) -> bool
+// Whether an index of this offset and length is declared at a boundary and not yet passed.
+pub fn index_due(index_offset: usize, index_length: usize, at: Boundary) -> bool
+    ensures { result ≡ index_due index_offset index_length at.place at.passed }
+{
+    !at.passed & (is_declared(index_offset, index_length) & (at.place == index_offset))
+}
+
+// The same of the file's index.
+fn index_here(file: &HeadedFile, at: Boundary) -> bool
     ensures { result ≡ index_here file.now at.place at.passed }
 {
-    !at.passed & (file.has_index() & (at.place == file.index_offset()))
+    index_due(file.index_offset(), file.index_length(), at)
 }
 
 // An index at `place` that is cut short (1).
-fn pass_test(file: &HeadedFile, place: usize) -> Result<(), Refusal>
+pub fn pass_test(file: &HeadedFile, place: usize) -> Result<(), Refusal>
     requires { place ≤ length file.now }
     ensures { answer_of result ≡ pass_test file.now place }
 {
@@ -36,7 +42,7 @@ pub fn index_test(file: &HeadedFile, at: Boundary) -> Result<(), Refusal>
     requires { at.place ≤ length file.now }
     ensures { answer_of result ≡ index_test file.now at.place at.passed }
 {
-    if index_due(file, at) {
+    if index_here(file, at) {
         return pass_test(file, at.place);
     }
     Ok(())
@@ -70,7 +76,7 @@ pub fn past_index(file: &HeadedFile, at: Boundary) -> Boundary
     requires { at.place ≤ length file.now }
     ensures { result ≡ read_start file.now at }
 {
-    if !index_due(file, at) {
+    if !index_here(file, at) {
         return at;
     }
     Boundary {

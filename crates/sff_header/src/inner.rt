@@ -3,6 +3,7 @@
 ghost use Rattle.std.specs.Prelude.{◌≡◌, ◌+◌, ◌≤◌, ◌<◌, length};
 ghost use Rattle.octets.specs.Parts.{whole_part};
 ghost use Rattle.sff_format.specs.Rules.{declared, index_size};
+ghost use Rattle.sff_format.specs.HeaderTest;
 ghost use Rattle.sff_format.specs.HeaderTest.{index_offset, index_length, read_count, header_length, key_length, flows, characters_end};
 
 use octets::inner::{get16, get32, get64};
@@ -11,7 +12,7 @@ use std::marker::Model;
 
 // A file, and the fields of its header that differ from file to file, each in the width that it has there. A contract
 // sees the file's bytes alone.
-#[derive(Drop)]
+#[derive(Clone, Drop)]
 pub struct HeadedFile<'a> {
     bytes: &'a [u8],
     index_offset: usize,
@@ -46,6 +47,35 @@ impl<'a> HeadedFile<'a> {
             length: get16(bytes, 24) as u16,
             key_length: get16(bytes, 26) as u16,
             flows: get16(bytes, 28) as u16,
+        }
+    }
+
+    // The same of a file of any length, by fields that were read before.
+    pub fn of_fields(
+        bytes: &'a [u8],
+        index_offset: usize,
+        index_length: u32,
+        reads: u32,
+        length: u16,
+        key_length: u16,
+        flows: u16,
+    ) -> HeadedFile<'a>
+        requires index_offset_value { index_offset ≡ HeaderTest.index_offset bytes.now }
+        requires index_length_value { index_length ≡ HeaderTest.index_length bytes.now }
+        requires reads_value { reads ≡ HeaderTest.read_count bytes.now }
+        requires length_value { length ≡ HeaderTest.header_length bytes.now }
+        requires key_length_value { key_length ≡ HeaderTest.key_length bytes.now }
+        requires flows_value { flows ≡ HeaderTest.flows bytes.now }
+        ensures { result ≡ bytes.now }
+    {
+        HeadedFile {
+            bytes,
+            index_offset,
+            index_length,
+            reads,
+            length,
+            key_length,
+            flows,
         }
     }
 
@@ -119,20 +149,28 @@ impl<'a> HeadedFile<'a> {
         is_declared(self.index_offset(), self.index_length())
     }
 
-    // The room that an index of the stated length occupies. A place in the file and this size have a sum.
+    // The room that the index occupies. A place in the file and this size have a sum.
     #[tactic(auto, unfolding(sff_format::specs::Rules::index_size))]
     pub fn index_size(&self) -> usize
         ensures value { result ≡ index_size (index_length self.now) }
         ensures fits { length self.now + result < 18446744073709551616 }
     {
-        self.index_length as usize
+        index_size(self.index_length as usize)
     }
 }
 
 // Whether an index of this offset and length is there.
 #[tactic(auto, unfolding(sff_format::specs::Rules::declared))]
-pub(crate) fn is_declared(offset: usize, index_length: usize) -> bool
+pub fn is_declared(offset: usize, index_length: usize) -> bool
     ensures { result ≡ declared offset index_length }
 {
     !((offset == 0) & (index_length == 0))
+}
+
+// The room that an index of a stated length occupies.
+#[tactic(auto, unfolding(sff_format::specs::Rules::index_size))]
+pub fn index_size(stated_length: usize) -> usize
+    ensures { result ≡ index_size stated_length }
+{
+    stated_length
 }

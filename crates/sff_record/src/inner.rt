@@ -20,7 +20,7 @@ pub struct Record<'a> {
 
 // The fields of a record, with its own position. Its kind is told as `kind_by` tells it, without TryFrom: a `Record` has
 // one of the three, and no error is left to make.
-fn record_fields(record: &[u8]) -> Fields
+pub fn record_fields(record: &[u8]) -> Fields
     requires { length «record».now ≡ 96 }
     ensures { result ≡ fields_at (position «record».now) «record».now }
 {

@@ -1,25 +1,43 @@
 -- What is put one after another is a read's section, or a new file: s is what a buffer was, s₁ what it is after the
 -- first. Assumes nothing.
 use Prim.Native.Nat.{ℕ, ◌+◌, ◌-◌, ◌*◌, ◌≤◌}
-use mathlib.Core.Path.{◌≡◌, ap, ◌∙◌}
-use mathlib.Core.List.{List, ◌++◌, append-nil}
+use mathlib.Core.Path.{◌≡◌, refl, ap, ◌∙◌}
+use mathlib.Core.List.{List, [], ◌++◌, append-nil}
 use native.Mathlib.Nat.{zero-add}
 use native.Mathlib.Omega.{arith}
-use lib.ListN.{length, replicate, length-append}
+use lib.ListN.{length, replicate, length-append, length-replicate}
 use Rattle.octets.specs.Parts.{put_at, up8}
 use Rattle.octets.specs.Numbers.{fields, words}
 use Rattle.octets.proofs.Lists.{put_next}
 use Rattle.octets.proofs.Inserts.{insert_zero}
 use Rattle.octets.proofs.Stands.{length_fields_lem, length_units}
+use Rattle.sff_format.specs.declared.Clips.{Clips}
 use Rattle.sff_format.specs.Model.{Read, read_fields, header_fields, layout_read_header, layout_read_data, layout_read, layout_reads, layout_header, layout}
-use Rattle.sff_format.specs.Writing.{new_file}
+use Rattle.sff_format.specs.Writing.{new_file, read_of}
 use Rattle.sff_format.proofs.Sizes.{length_head, length_data, length_header, layout_none}
-use Rattle.sff_sections.specs.Sections.{read_size}
+use Rattle.sff_sections.specs.Sections.{clip_fields, section_fields, header_section, read_size}
 use Rattle.sff_sections.proofs.Pieces.{padding_put}
 
 pub length-read : (r : Read) → length r.increments ≡ length r.bases → length r.qualities ≡ length r.bases → length (layout_read r) ≡ read_size r
 unfolding layout_read
 length-read r ei eq = simp (length-append, length_head, length_data) (omega arith)
+
+module _ (name : List ℕ) (clips : Clips) where
+  pub header_section_lem : (values increments bases qualities : List ℕ)
+      → layout_read_header (read_of name clips values increments bases qualities) ≡ header_section name (length bases) clips
+  unfolding layout_read_header read_fields header_section section_fields clip_fields
+  header_section_lem values increments bases qualities = refl
+
+  -- a read of so many bases
+  abbrev pub counted : ℕ → Read
+  counted n = read_of name clips [] [] (replicate n 0) []
+
+  pub counted_section : (n : ℕ) → layout_read_header (counted n) ≡ header_section name n clips
+  counted_section n = header_section_lem [] [] (replicate n 0) [] ∙ rw length-replicate refl
+
+  pub counted_fields : (n : ℕ) → section_fields (length name) n clips ≡ read_fields (counted n)
+  unfolding read_fields section_fields clip_fields
+  counted_fields n = rw length-replicate refl
 
 -- a read's header section
 pub head_put :

@@ -3,12 +3,13 @@
 ghost use Rattle.std.specs.Prelude.{ℕ, ◌≡◌, ◌+◌, ◌-◌, ◌*◌, ◌≤◌, ◌<◌, length, replicate};
 ghost use Rattle.octets.specs.Parts.{put_at, up8};
 ghost use Rattle.octets.specs.Numbers.{bytes_of, fields};
-ghost use Rattle.sff_format.specs.Model.{layout, layout_read, layout_read_header, layout_read_data};
-ghost use Rattle.sff_sections.specs.Sections.{read_in, read_size, file_in, header_size, AllNarrow};
+ghost use Rattle.sff_format.specs.Model.{layout, layout_read, layout_read_data};
+ghost use Rattle.sff_sections.specs.Sections.{header_section, read_in, read_size, file_in, header_size, AllNarrow};
 
 use crate::{NewHeader, NewRead};
 use buffers::inner::put_words;
 use octets::inner::up8;
+use sff_format::Clips;
 
 // Puts all bytes of `source` at `at`.
 fn put_bytes(buffer: &mut [u8], at: usize, source: &[u8])
@@ -49,38 +50,54 @@ fn put_fields(buffer: &mut [u8], at: usize, numbers: &[(usize, usize)])
     }
 }
 
+// How many bytes a read occupies.
+pub fn read_size(name_length: usize, flows: usize, bases: usize) -> usize
+    requires { (name_length < 65536) × (flows < 65536) × (bases < 4294967296) }
+    ensures { result ≡ up8 (16 + name_length) + up8 (2 * flows + 3 * bases) }
+{
+    up8(16 + name_length) + up8(2 * flows + 3 * bases)
+}
+
+// How many bytes a header occupies.
+pub fn header_size(flows: usize, key_length: usize) -> usize
+    requires { flows + key_length ≤ 65497 }
+    ensures { result ≡ up8 (31 + flows + key_length) }
+{
+    up8(31 + flows + key_length)
+}
+
+// Puts the header section of a read of so many bases at `at`.
+pub fn put_read_header(buffer: &mut [u8], at: usize, name: &[u8], bases: usize, clips: Clips)
+    requires name_in_bounds { at + up8 (16 + length name.now) ≤ length buffer.old }
+    requires name_len_bound { length name.now ≤ 65512 }
+    ensures { buffer.new ≡ put_at at (header_section name.now bases clips) buffer.old }
+{
+    let used = 16 + name.len();
+    let fields = [
+        (2, up8(used)),
+        (2, name.len()),
+        (4, bases),
+        (2, usize::from(clips.quality_left)),
+        (2, usize::from(clips.quality_right)),
+        (2, usize::from(clips.adapter_left)),
+        (2, usize::from(clips.adapter_right)),
+    ];
+    put_fields(buffer, at, &fields);
+    put_bytes(buffer, at + 16, name);
+    put_padding(buffer, at, used);
+}
+
 impl NewRead<'_> {
     // How many bytes the read occupies.
     pub fn size(&self) -> usize
         requires { (length self.now.name.now < 65536) × (length self.now.values.now < 65536) × (length self.now.bases.now < 4294967296) }
         ensures { result ≡ read_size (read_in self.now) }
     {
-        up8(16 + self.name.len()) + up8(2 * self.values.len() + 3 * self.bases.len())
-    }
-
-    // Puts the header section at `at`.
-    fn put_header(&self, buffer: &mut [u8], at: usize)
-        requires name_in_bounds { at + up8 (16 + length self.now.name.now) ≤ length buffer.old }
-        requires name_len_bound { length self.now.name.now ≤ 65512 }
-        ensures { buffer.new ≡ put_at at (layout_read_header (read_in self.now)) buffer.old }
-    {
-        let used = 16 + self.name.len();
-        let fields = [
-            (2, up8(used)),
-            (2, self.name.len()),
-            (4, self.bases.len()),
-            (2, usize::from(self.clips.quality_left)),
-            (2, usize::from(self.clips.quality_right)),
-            (2, usize::from(self.clips.adapter_left)),
-            (2, usize::from(self.clips.adapter_right)),
-        ];
-        put_fields(buffer, at, &fields);
-        put_bytes(buffer, at + 16, self.name);
-        put_padding(buffer, at, used);
+        read_size(self.name.len(), self.values.len(), self.bases.len())
     }
 
     // Puts the data section at `at`.
-    fn put_data(&self, buffer: &mut [u8], at: usize)
+    pub fn put_data(&self, buffer: &mut [u8], at: usize)
         requires bases_in_bounds { at + up8 (2 * length self.now.values.now + 3 * length self.now.bases.now) ≤ length buffer.old }
         requires increments_len { length self.now.increments.now ≡ length self.now.bases.now }
         requires qualities_len { length self.now.qualities.now ≡ length self.now.bases.now }
@@ -103,7 +120,7 @@ impl NewRead<'_> {
         requires qualities_len { length self.now.qualities.now ≡ length self.now.bases.now }
         ensures { buffer.new ≡ put_at at (layout_read (read_in self.now)) buffer.old }
     {
-        self.put_header(buffer, at);
+        put_read_header(buffer, at, self.name, self.bases.len(), self.clips);
         self.put_data(buffer, at + up8(16 + self.name.len()));
     }
 }
@@ -114,7 +131,7 @@ impl NewHeader<'_> {
         requires { length self.now.flows.now + length self.now.key.now ≤ 65497 }
         ensures { result ≡ header_size (file_in self.now) }
     {
-        up8(31 + self.flows.len() + self.key.len())
+        header_size(self.flows.len(), self.key.len())
     }
 
     // Puts a new file at the front of the buffer: the header alone.

@@ -3,10 +3,10 @@ use Rattle.sff_format.specs.FileTest.{index_test}
 use Rattle.sff_file.proofs.Sections.{due}
 use Rattle.sff_file.proofs.inner.index_test.Goals as goal
 
-pub returns-then-index_due : goal.returns-then-index_due
+pub returns-then-index_here : goal.returns-then-index_here
 unfolding index_test
-returns-then-index_due c = rw (due c.index_due.ensures c.if-index_due.true) c.pass_test.ensures
+returns-then-index_here c = rw (due c.index_here.ensures c.if-index_here.true) c.pass_test.ensures
 
 pub returns : goal.returns
 unfolding index_test
-returns c = rw (due c.index_due.ensures c.if-index_due.false)
+returns c = rw (due c.index_here.ensures c.if-index_here.false)

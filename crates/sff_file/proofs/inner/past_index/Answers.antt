@@ -3,12 +3,12 @@ use Rattle.sff_format.proofs.Boundaries.{no_past, no_pass, past, pass}
 use Rattle.sff_file.proofs.Sections.{due}
 use Rattle.sff_file.proofs.inner.past_index.Goals as goal
 
-pub returns-then-not-index_due : goal.returns-then-not-index_due
-returns-then-not-index_due c =
-    let h = due c.index_due.ensures c.if-not-index_due.true in
+pub returns-then-not-index_here : goal.returns-then-not-index_here
+returns-then-not-index_here c =
+    let h = due c.index_here.ensures c.if-not-index_here.true in
     rw (no_past _ _ _ h, no_pass _ _ _ h)
 
 pub returns : goal.returns
 returns c =
-    let h = due c.index_due.ensures c.if-not-index_due.false in
+    let h = due c.index_here.ensures c.if-not-index_here.false in
     rw (past _ _ _ h, pass _ _ _ h, ← c.index_size.ensures.value)

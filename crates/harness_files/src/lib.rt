@@ -16,7 +16,7 @@ use sff_find::position_test;
 use sff_format::{Clips, ReadView, Span};
 use sff_header::{flow_characters, header_test, key};
 use sff_insert::{insert, insert_ends};
-use sff_reader::{Found, Reader};
+use sff_reader::{Found, Reader, Stopped};
 use sff_sections::NewRead;
 use sff_signal::{signal, signal_test};
 use sff_view::view_test;
@@ -92,7 +92,7 @@ fn step_on(file: &[u8], reader: Reader) -> Stepped
 {
     match reader.step(file) {
         Ok(Found { view, next }) => read_found(view, next),
-        Err(refusal) => read_refused(refusal, reader),
+        Err(Stopped { refusal, unmoved }) => read_refused(refusal, unmoved),
     }
 }
 
@@ -292,9 +292,10 @@ pub fn new_out(
         result place.new length_after.new buffer.new }
 {
     let outcome = new_file(buffer, flows, key);
-    *place = place_of(outcome);
-    *length_after = outcome.unwrap_or(0) as u64;
-    number_of(outcome)
+    let answer = outcome.map_err(|not_done| not_done.refusal);
+    *place = place_of(answer);
+    *length_after = outcome.unwrap_or_else(|not_done| not_done.length) as u64;
+    number_of(answer)
 }
 
 pub fn append_out(
@@ -322,7 +323,8 @@ pub fn append_out(
         qualities,
     };
     let outcome = append(buffer, file_length as usize, &read);
-    *place = place_of(outcome);
-    *length_after = outcome.unwrap_or(file_length as usize) as u64;
-    number_of(outcome)
+    let answer = outcome.map_err(|not_done| not_done.refusal);
+    *place = place_of(answer);
+    *length_after = outcome.unwrap_or_else(|not_done| not_done.length) as u64;
+    number_of(answer)
 }

@@ -28,8 +28,8 @@ pub fn correct_out(
         result place.new length_after.new buffer.new }
 {
     let corrected = correct(buffer, file_length as usize, record);
-    *length_after = corrected.map_or(file_length, |length| length as u64);
-    let answer = corrected.map(|_| ());
+    *length_after = corrected.unwrap_or_else(|not_done| not_done.length) as u64;
+    let answer = corrected.map_err(|not_done| not_done.refusal);
     *place = place_of(answer);
     number_of(answer)
 }

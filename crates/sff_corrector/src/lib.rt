@@ -21,6 +21,7 @@ use correction_format::ListOutcome;
 use sff_edit::inner::apply;
 use sff_file::file_test;
 use sff_find::inner::{Mark, find, find_on};
+use sff_format::NotDone;
 use sff_reasons::inner::{position_above, reason};
 use sff_record::inner::Record;
 use sff_record::record_test;
@@ -133,13 +134,18 @@ fn run(buffer: &mut [u8], list: &[u8], n: usize, first: CarriedOut) -> ListOutco
 }
 
 // Corrects the file that fills the first `file_length` bytes of the buffer by one record. Answers the file's length
-// afterwards; refused, the buffer is as it was.
-pub fn correct(buffer: &mut [u8], file_length: usize, record: &[u8]) -> Result<usize, Refusal>
-    ensures value { outcome_of file_length result ≡ correct_outcome buffer.old file_length «record».now }
+// afterwards; refused, the length that was given, with the buffer as it was.
+pub fn correct(buffer: &mut [u8], file_length: usize, record: &[u8]) -> Result<usize, NotDone>
+    ensures value { outcome_of result ≡ correct_outcome buffer.old file_length «record».now }
     ensures buffer_after { buffer.new ≡ correct_buffer buffer.old file_length «record».now }
 {
-    let carried = carry_first(buffer, file_length, record)?;
-    Ok(carried.length)
+    match carry_first(buffer, file_length, record) {
+        Ok(carried) => Ok(carried.length),
+        Err(refusal) => Err(NotDone {
+            refusal,
+            length: file_length,
+        }),
+    }
 }
 
 // Corrects the file by the records of a list in turn, up to the first that is refused. Answers how many were carried

@@ -39,3 +39,5 @@ pub mod Rewritten
 pub mod InWords
 -- No refusal has the number 0.
 pub mod Refusals
+-- What a call gave whose refusal goes on in an error that says more.
+pub mod Handed

@@ -3,10 +3,10 @@ use Rattle.std.specs.Prelude.{Result, Ok, Err, ℕ, ◌+◌, ◌<◌, ◌≡◌,
 use Rattle.octets.specs.Parts.{put_at}
 use Rattle.octets.specs.Numbers.{Bytes, bytes_of, Words}
 use Rattle.octets.specs.Scans.{fails, is_flow_character, is_name_byte}
-use Rattle.answers.specs.declared.Refusal.{Refusal}
 use Rattle.answers.specs.Causes.{number}
 use Rattle.answers.specs.Answer.{Answer, Accepted, Refused, when, zero_place, ◌then◌, accepted_or}
 use Rattle.sff_format.specs.declared.Clips.{Clips}
+use Rattle.sff_format.specs.declared.NotDone.{NotDone}
 use Rattle.sff_format.specs.Rules.{declared}
 use Rattle.sff_format.specs.Model.{Read, File, no_index, layout_read, layout}
 use Rattle.sff_format.specs.HeaderTest.{index_offset, index_length, read_count, flow_characters}
@@ -20,10 +20,10 @@ pub record Outcome : Type 0 where
   pub answer : Answer
   pub length : ℕ
 
--- what a writer's call says of a file of the length that was given: the length afterwards, or a refusal, which leaves it
-abbrev pub outcome_of : ℕ → Result ℕ Refusal → Outcome
-outcome_of given (Ok new) = record { answer = Accepted; length = new }
-outcome_of given (Err refusal) = record { answer = Refused (number refusal.0) refusal.1; length = given }
+-- what a writer's call says: its refusal or none, and the length that it answers with either
+abbrev pub outcome_of : Result ℕ NotDone → Outcome
+outcome_of (Ok new) = record { answer = Accepted; length = new }
+outcome_of (Err not_done) = record { answer = Refused (number not_done.refusal.0) not_done.refusal.1; length = not_done.length }
 
 -- "also answers the file's length afterwards (the length given if nothing is done; 0 for a refused new file)"
 abbrev pub outcome : Answer → ℕ → ℕ → Outcome

@@ -2,6 +2,8 @@
 
 #![tactic(auto)]
 
+use answers::Refusal;
+
 // Bytes of a file, or entries of a list: the place of the first, and how many.
 #[derive(Clone, Copy)]
 pub struct Span {
@@ -38,4 +40,11 @@ pub struct Clips {
     pub quality_right: u16,
     pub adapter_left: u16,
     pub adapter_right: u16,
+}
+
+// Why a writer or a correction did nothing, and the file's length afterwards: the one given, or 0 of a new file.
+#[derive(Clone, Copy, Debug, PartialEq, Eq)]
+pub struct NotDone {
+    pub refusal: Refusal,
+    pub length: usize,
 }

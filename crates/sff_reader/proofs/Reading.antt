@@ -25,6 +25,7 @@ use Rattle.sff_format.proofs.ReadLaid.{fits_16}
 use Rattle.sff_format.proofs.Steps.{read-accepted, step-found, step-stop}
 use Rattle.sff_reader.specs.declared.Reader.{Reader}
 use Rattle.sff_reader.specs.declared.Found.{Found}
+use Rattle.sff_reader.specs.declared.Stopped.{Stopped}
 use Rattle.sff_reader.specs.Forms.{state_of, step_of}
 
 module _ (b : List ℕ) where
@@ -67,10 +68,10 @@ module _
   found_is k i = rw (i, k, g) (sym (step-found b s e))
 
 -- where they refuse, the state is given back
-pub handed_over : (reader : Reader) (r : Result Found Refusal) (e : Refusal)
-    → IsErr r × IsErrAnd r (λ x. x ≡ e) → step_of reader r ≡ stop (number e.0) e.1 (state_of reader)
-handed_over reader (Ok x) e (h, k) = absurd k
-handed_over reader (Err x) e (h, k) = rw k
+pub handed_over : (r : Result Found Stopped) (d : Stopped) (e : Refusal) (reader : Reader) → d ≡ record { refusal = e; unmoved = reader }
+    → IsErr r × IsErrAnd r (λ x. x ≡ d) → step_of r ≡ stop (number e.0) e.1 (state_of reader)
+handed_over (Ok x) d e reader q (h, k) = absurd k
+handed_over (Err x) d e reader q (h, k) = rw (k, q)
 
 pub stopped_is : (b : List ℕ) (s : State) {n p : ℕ} → Refused n p ≡ step_test b s → stop n p s ≡ step b s
 stopped_is b s {n} {p} e = sym (step-stop b s n p (sym e))

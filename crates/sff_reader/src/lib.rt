@@ -30,6 +30,13 @@ pub struct Found {
     pub next: Reader,
 }
 
+// Why a step found no read, and the reader, which it did not move.
+#[derive(Clone, Copy)]
+pub struct Stopped {
+    pub refusal: Refusal,
+    pub unmoved: Reader,
+}
+
 // Past an index: the read's tests; with no read left those of the file's end (13, 12), or else 33.
 fn read_or_none(file: &HeadedFile, at: Boundary, reads: usize) -> Result<(), Refusal>
     requires file_value { header_test file.now ≡ Accepted }
@@ -96,11 +103,14 @@ impl Reader {
         }
     }
 
-    // For every state: the read and the next reader, or a refusal, and this reader is as it was.
-    pub fn step(self, file: &[u8]) -> Result<Found, Refusal>
-        ensures { step_of self result ≡ step file.now (state_of self) }
+    // For every state: the read and the next reader, or a refusal and this one.
+    pub fn step(self, file: &[u8]) -> Result<Found, Stopped>
+        ensures { step_of result ≡ step file.now (state_of self) }
     {
-        step_test(file, self)?;
+        step_test(file, self).map_err(|refusal| Stopped {
+            refusal,
+            unmoved: self,
+        })?;
         Ok(read_found(file, self))
     }
 }

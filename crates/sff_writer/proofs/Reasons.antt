@@ -9,19 +9,18 @@ use lib.ListN.{length, take, drop, length-take}
 use lib.Seq.{length-take-le}
 use borrow.Author.Tests.{lt-ltb, le-ltb}
 use Rattle.std.specs.Prelude.{Result, Ok, Err}
-use Rattle.std.specs.Result.{MatchResult, IsErr, IsErrAnd}
+use Rattle.std.specs.Result.{MatchResult, IsErrAnd}
 use Rattle.octets.specs.Parts.{whole_part, put_at, up8}
 use Rattle.octets.specs.Numbers.{Bytes, number, bytes_of}
 use Rattle.octets.proofs.Lists.{part-take, whole_in}
 use Rattle.octets.proofs.AllBytes.{bytes_take}
 use Rattle.octets.proofs.Stands.{number_small}
 use Rattle.answers.specs.declared.Refusal.{Refusal}
-use Rattle.answers.specs.Causes.{number as number_of_cause}
 use Rattle.answers.specs.Answer.{Answer, Accepted, Refused, answer_of, when, zero_place, ◌then◌, accepted_or}
 use Rattle.sff_format.specs.Model.{Read, layout_read, layout}
 use Rattle.sff_format.specs.HeaderTest.{read_count, flows, flow_characters}
 use Rattle.sff_format.specs.FileTest.{file_test}
-use Rattle.sff_format.specs.Writing.{outcome_of, new_file, new_test, new_outcome, new_buffer, given_test, open_test, append_test, append_outcome, append_buffer}
+use Rattle.sff_format.specs.Writing.{new_file, new_test, new_outcome, new_buffer, given_test, open_test, append_test, append_outcome, append_buffer}
 use Rattle.answers.proofs.Answers.{first-ok, second-ok, when-ok, under_ok}
 use Rattle.sff_format.proofs.HeaderLaws.{fits_31, characters-length}
 use Rattle.sff_format.proofs.FileLaid.{head_ok}
@@ -30,12 +29,6 @@ use Rattle.sff_format.proofs.Appends.{Carried, carried}
 use Rattle.sff_file.proofs.Sections.{characters_fit}
 use Rattle.sff_sections.specs.Sections.{read_size}
 use Rattle.sff_sections.proofs.Sections.{length-read, length-new}
-
--- what a writer's call says that hands a refusal back
-pub outcome_returned : (given : ℕ) (r : Result ℕ Refusal) (e : Refusal) → IsErr r × IsErrAnd r (λ x. x ≡ e)
-    → outcome_of given r ≡ record { answer = Refused (number_of_cause e.0) e.1; length = given }
-outcome_returned given (Ok n) e (h, k) = absurd k
-outcome_returned given (Err x) e (h, k) = rw k
 
 -- a refusal r whose place became 0, where `map_err` says P of it
 pub zero_placed : (tested result : Result (Unit {0}) Refusal) (P : Refusal → Refusal → Type 0)

@@ -15,7 +15,7 @@ use octets::inner::get32;
 use octets::{ByteTest, fails};
 use sff_clips::inner::clip_test;
 use sff_file::file_test;
-use sff_format::Clips;
+use sff_format::{Clips, NotDone};
 use sff_header::inner::HeadedFile;
 use sff_sections::{NewHeader, NewRead};
 use sff_walk::BasePosition;
@@ -84,14 +84,14 @@ fn new_test(room: usize, header: &NewHeader) -> Result<(), Refusal>
     Ok(())
 }
 
-// Puts a new file, with no reads and no index, at the front of the buffer. Answers its length; refused, the buffer is
-// as it was.
-pub fn new_file(buffer: &mut [u8], flows: &[u8], key: &[u8]) -> Result<usize, Refusal>
-    ensures value { outcome_of 0 result ≡ new_outcome buffer.old flows.now key.now }
+// Puts a new file, with no reads and no index, at the front of the buffer. Answers its length; refused, 0, with the
+// buffer as it was.
+pub fn new_file(buffer: &mut [u8], flows: &[u8], key: &[u8]) -> Result<usize, NotDone>
+    ensures value { outcome_of result ≡ new_outcome buffer.old flows.now key.now }
     ensures buffer_after { buffer.new ≡ new_buffer buffer.old flows.now key.now }
 {
     let header = NewHeader { flows, key };
-    new_test(buffer.len(), &header)?;
+    new_test(buffer.len(), &header).map_err(|refusal| NotDone { refusal, length: 0 })?;
     header.put(buffer);
     Ok(header.size())
 }
@@ -128,12 +128,15 @@ fn append_test(buffer: &[u8], file_length: usize, read: &NewRead) -> Result<(), 
 }
 
 // Puts a read behind the file that fills the first `file_length` bytes of the buffer, and counts it. Answers the file's
-// length afterwards; refused, file and buffer are as they were. File and room are one buffer, as the definition has
-// them: so the file's length stands beside it.
-pub fn append(buffer: &mut [u8], file_length: usize, read: &NewRead) -> Result<usize, Refusal>
-    ensures { AppendLeaves buffer.old file_length (read_in read.now) (outcome_of file_length result) buffer.new }
+// length afterwards; refused, the length that was given, with the buffer as it was. File and room are one buffer, as
+// the definition has them: so the file's length stands beside it.
+pub fn append(buffer: &mut [u8], file_length: usize, read: &NewRead) -> Result<usize, NotDone>
+    ensures { AppendLeaves buffer.old file_length (read_in read.now) (outcome_of result) buffer.new }
 {
-    append_test(buffer, file_length, read)?;
+    append_test(buffer, file_length, read).map_err(|refusal| NotDone {
+        refusal,
+        length: file_length,
+    })?;
     let reads = get32(buffer, 20);
     read.put(buffer, file_length);
     put32(buffer, 20, reads + 1);

@@ -16,7 +16,7 @@ use correction_format::Kind;
 use octets::inner::{get16, get32, up8};
 use sff_clips::inner::clip_test;
 use sff_file::inner::{first_boundary, next_boundary, past_index};
-use sff_header::inner::HeadedFile;
+use sff_header::inner::{HeadedFile, is_declared};
 use sff_record::inner::Record;
 use sff_walk::BasePosition;
 
@@ -64,9 +64,34 @@ fn base_count(file: &[u8], place: usize) -> usize
     get32(file, place + 4)
 }
 
+// 25: a rename or a removal, and the file has an index.
+pub fn index_present(file: &[u8], record: &Record) -> bool
+    requires file_value { file_test file.now ≡ Accepted }
+    requires position_bound { «record».now.fields.position < read_count file.now }
+    ensures { (room : ℕ) → result ≡ index_present room (asked «record».now.fields «record».now.bytes.now) (parse file.now) }
+{
+    if record.fields.kind == Kind::Clips {
+        return false;
+    }
+    let headed = HeadedFile::new(file);
+    is_declared(headed.index_offset(), headed.index_length())
+}
+
+// 24: a rename to a name that another read bears.
+pub fn name_taken(file: &[u8], record: &Record) -> bool
+    requires file_value { file_test file.now ≡ Accepted }
+    requires position_bound { «record».now.fields.position < read_count file.now }
+    ensures { (room : ℕ) → result ≡ name_taken room (asked «record».now.fields «record».now.bytes.now) (parse file.now) }
+{
+    if record.fields.kind != Kind::Rename {
+        return false;
+    }
+    name_among(file, record.fields.position, record.new_name())
+}
+
 // A record, and its read in an accepted file.
 #[derive(Clone, Copy)]
-struct Judged<'a> {
+pub struct Judged<'a> {
     file: &'a [u8],
     record: &'a Record<'a>,
     place: usize,
@@ -77,25 +102,30 @@ struct Judged<'a> {
 }
 
 impl<'a> Judged<'a> {
+    // The record, and its read at `place`.
+    pub fn new(file: &'a [u8], correction: &'a Record<'a>, place: usize) -> Judged<'a>
+        requires file_value { file_test file.now ≡ Accepted }
+        requires position_bound { correction.now.fields.position < read_count file.now }
+        requires place_value { place ≡ read_place file.now correction.now.fields.position }
+        ensures file_value { result.file.now ≡ file.now }
+        ensures record_value { result.record.now ≡ correction.now }
+    {
+        Judged {
+            file,
+            record: correction,
+            place,
+        }
+    }
+
     // 22: the read has another name.
-    fn other_name(&self) -> bool
+    pub fn other_name(&self) -> bool
         ensures { (room : ℕ) → result ≡ other_name room (asked self.now.record.now.fields self.now.record.now.bytes.now) (parse self.now.file.now) }
     {
         !has_name(self.file, self.place, self.record.old_name())
     }
 
-    // 25: a rename or a removal, and the file has an index.
-    fn index_present(&self) -> bool
-        ensures { (room : ℕ) → result ≡ index_present room (asked self.now.record.now.fields self.now.record.now.bytes.now) (parse self.now.file.now) }
-    {
-        if self.record.fields.kind == Kind::Clips {
-            return false;
-        }
-        HeadedFile::new(self.file).has_index()
-    }
-
     // 23: a new clip is above the read's number of bases.
-    fn clip_above(&self) -> bool
+    pub fn clip_above(&self) -> bool
         ensures { (room : ℕ) → result ≡ clip_above room (asked self.now.record.now.fields self.now.record.now.bytes.now) (parse self.now.file.now) }
     {
         let fields = self.record.fields;
@@ -113,22 +143,8 @@ impl<'a> Judged<'a> {
         .is_err()
     }
 
-    // 24: a rename to a name that another read bears.
-    fn name_taken(&self) -> bool
-        ensures { (room : ℕ) → result ≡ name_taken room (asked self.now.record.now.fields self.now.record.now.bytes.now) (parse self.now.file.now) }
-    {
-        if self.record.fields.kind != Kind::Rename {
-            return false;
-        }
-        name_among(
-            self.file,
-            self.record.fields.position,
-            self.record.new_name(),
-        )
-    }
-
     // 26: the file with the new name does not fit into a buffer of `room` bytes, into which it fits as it is.
-    fn no_room(&self, room: usize) -> bool
+    pub fn no_room(&self, room: usize) -> bool
         requires { length self.now.file.now ≤ room }
         ensures { result ≡ no_room room (asked self.now.record.now.fields self.now.record.now.bytes.now) (parse self.now.file.now) }
     {
@@ -156,13 +172,13 @@ pub fn reason(file: &[u8], room: usize, place: usize, record: &Record) -> Result
     if judged.other_name() {
         return Err(Refusal(Cause::OtherName, 0));
     }
-    if judged.index_present() {
+    if index_present(file, record) {
         return Err(Refusal(Cause::IndexPresent, 0));
     }
     if judged.clip_above() {
         return Err(Refusal(Cause::NewClip, 0));
     }
-    if judged.name_taken() {
+    if name_taken(file, record) {
         return Err(Refusal(Cause::NameTaken, 0));
     }
     if judged.no_room(room) {

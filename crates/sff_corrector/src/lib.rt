@@ -4,14 +4,12 @@
 #![tactic(auto)]
 
 ghost use Rattle.std.specs.Prelude.{◌≡◌, Some, ◌-◌, ◌*◌, ◌≤◌, ◌<◌, length};
-ghost use Rattle.octets.specs.Numbers.{Bytes};
 ghost use Rattle.answers.specs.Answer.{Accepted};
 ghost use Rattle.sff_format.specs.HeaderTest.{read_count};
 ghost use Rattle.sff_format.specs.Writing.{outcome_of};
 ghost use Rattle.sff_format.specs.FileTest.{file_test};
 ghost use Rattle.sff_format.specs.Places.{read_place};
-ghost use Rattle.correction_format.specs.Record.{position};
-ghost use Rattle.correction_format.specs.Fields.{fields_at};
+ghost use Rattle.correction_format.specs.Record.{record_test};
 ghost use Rattle.correction_format.specs.Correct.{correct_outcome, correct_buffer};
 ghost use Rattle.correction_format.specs.ListRun.{list_outcome_of, turns, run_list};
 ghost use Rattle.sff_corrector.specs.Carried.{carried_outcome, StartIn, AcceptedFront, AcceptedAfter};
@@ -51,24 +49,24 @@ fn find_from(file: &[u8], from: Option<Mark>, position: usize) -> usize
 fn carry_out(
     buffer: &mut [u8],
     len: usize,
-    record: &Record,
+    bytes: &[u8],
     from: Option<Mark>,
 ) -> Result<CarriedOut, Refusal>
     requires accepted_front { AcceptedFront buffer.old len from }
-    requires bytes { Bytes «record».now.bytes.now }
-    requires own_position { «record».now.fields ≡ fields_at (position «record».now.bytes.now) «record».now.bytes.now }
-    ensures result_value { carried_outcome len result ≡ correct_outcome buffer.old len «record».now.bytes.now }
-    ensures buffer_after { buffer.new ≡ correct_buffer buffer.old len «record».now.bytes.now }
+    requires record_value { record_test bytes.now ≡ Accepted }
+    ensures result_value { carried_outcome len result ≡ correct_outcome buffer.old len bytes.now }
+    ensures buffer_after { buffer.new ≡ correct_buffer buffer.old len bytes.now }
     ensures accepted_after { AcceptedAfter buffer.new result }
 {
     let room = buffer.len();
-    if position_above(&buffer[..len], record) {
+    let correction = Record::new(bytes);
+    if position_above(&buffer[..len], &correction) {
         return Err(Refusal(Cause::Position, 0));
     }
-    let position = record.fields.position;
+    let position = correction.fields.position;
     let place = find_from(&buffer[..len], from, position);
-    reason(&buffer[..len], room, place, record)?;
-    let length = apply(buffer, len, place, record);
+    reason(&buffer[..len], room, place, &correction)?;
+    let length = apply(buffer, len, place, &correction);
     let read = Mark { position, place };
     Ok(CarriedOut { length, read })
 }
@@ -84,7 +82,7 @@ fn carry_first(buffer: &mut [u8], len: usize, record: &[u8]) -> Result<CarriedOu
     }
     record_test(record)?;
     file_test(&buffer[..len])?;
-    carry_out(buffer, len, &Record::new(record), None)
+    carry_out(buffer, len, record, None)
 }
 
 // A further record of a list: the one before it has left an accepted file.
@@ -100,7 +98,7 @@ fn carry_next(
     ensures accepted_after { AcceptedAfter buffer.new result }
 {
     record_test(record)?;
-    carry_out(buffer, len, &Record::new(record), Some(from))
+    carry_out(buffer, len, record, Some(from))
 }
 
 // The n records of a list from the second on, where the first left `first`.

@@ -1,9 +1,6 @@
 -- 14, 20 and the file's refusal end the chain of tests; behind them the file is accepted, and the walk starts at its
 -- header.
 use native.Mathlib.Omega.{arith}
-use Rattle.std.proofs.Common.{rules}
-use Rattle.octets.specs.Numbers.{Bytes}
-use Rattle.octets.proofs.AllBytes.{bytes_of_lem}
 use Rattle.answers.specs.declared.Cause.TheVariants.{FileLength}
 use Rattle.sff_corrector.proofs.Turns.{stopped, stopped_back, stop_14, stop_20, stop-file}
 use Rattle.sff_corrector.proofs.carry_first.Goals as goal
@@ -24,11 +21,3 @@ returns-in_err-file_test c =
     let t = stop-file _ _ _ (omega arith) c.in_ok-record_test.ensures c.in_err-file_test.ensures in
     let r = stopped_back _ _ _ _ _ c.from_residual-in_err-file_test.ensures t in
     record { result_value = r.0; buffer_after = r.1.0; accepted_after = r.1.1 }
-
-pub carry_out-requires-clause-bytes : goal.carry_out-requires-clause-bytes
-carry_out-requires-clause-bytes c =
-    let z : Bytes c.args.record.now = search (bytes_of_lem, rules) in
-    rw c.new.ensures.bytes z
-
-pub returns : goal.returns
-returns c = rw c.new.ensures.bytes at c.carry_out.ensures

@@ -1,7 +1,4 @@
 -- 20 is the one refusal before the rest, since the file before it is accepted.
-use Rattle.std.proofs.Common.{rules}
-use Rattle.octets.specs.Numbers.{Bytes}
-use Rattle.octets.proofs.AllBytes.{bytes_of_lem}
 use Rattle.sff_corrector.proofs.Turns.{stopped_back, stop_20}
 use Rattle.sff_corrector.proofs.carry_next.Goals as goal
 
@@ -10,11 +7,3 @@ returns-in_err-record_test c =
     let t = stop_20 _ _ _ c.requires.inside c.in_err-record_test.ensures in
     let r = stopped_back _ _ _ _ _ c.from_residual.ensures t in
     record { result_value = r.0; buffer_after = r.1.0; accepted_after = r.1.1 }
-
-pub carry_out-requires-clause-bytes : goal.carry_out-requires-clause-bytes
-carry_out-requires-clause-bytes c =
-    let z : Bytes c.args.record.now = search (bytes_of_lem, rules) in
-    rw c.new.ensures.bytes z
-
-pub returns : goal.returns
-returns c = rw c.new.ensures.bytes at c.carry_out.ensures

@@ -4,8 +4,10 @@ ghost use Rattle.std.specs.Prelude.{◌≡◌, ◌+◌, ◌≤◌, ◌<◌, leng
 ghost use Rattle.octets.specs.Parts.{whole_part};
 ghost use Rattle.sff_format.specs.Rules.{declared, index_size};
 ghost use Rattle.sff_format.specs.HeaderTest;
+ghost use Rattle.sff_header.specs.Header.{header_of, FieldsFit};
 ghost use Rattle.sff_format.specs.HeaderTest.{index_offset, index_length, read_count, header_length, key_length, flows, characters_end};
 
+use crate::Header;
 use octets::inner::{get16, get32, get64};
 use octets::whole_part;
 use std::marker::Model;
@@ -156,6 +158,23 @@ impl<'a> HeadedFile<'a> {
         ensures fits { length self.now + result < 18446744073709551616 }
     {
         index_size(self.index_length as usize)
+    }
+}
+
+// The header's fields, each read once.
+#[tactic(auto, unfolding(crate::specs::Header::header_of))]
+pub fn header_fields(file: &[u8]) -> Header
+    requires { 31 ≤ length file.now }
+    ensures value { result ≡ header_of file.now }
+    ensures fields_fit { FieldsFit result }
+{
+    Header {
+        index_offset: get64(file, 8),
+        index_length: get32(file, 16),
+        reads: get32(file, 20),
+        length: get16(file, 24),
+        key_length: get16(file, 26),
+        flows: get16(file, 28),
     }
 }
 

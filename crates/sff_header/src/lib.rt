@@ -16,6 +16,17 @@ use answers::{Cause, Refusal};
 use octets::ByteTest;
 use octets::inner::{first_not, get32, up8};
 
+// The fields of the common header that differ from file to file, without the file: a value that a caller keeps.
+#[derive(Clone, Copy)]
+pub struct Header {
+    pub index_offset: usize,
+    pub index_length: usize,
+    pub reads: usize,
+    pub length: usize,
+    pub key_length: usize,
+    pub flows: usize,
+}
+
 #[tactic(auto, unfolding(sff_format::specs::Rules::bad_index_length))]
 fn bad_index_length(index_length: usize) -> bool
     ensures { result ≡ bad_index_length index_length }
